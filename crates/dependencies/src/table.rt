@@ -73,8 +73,6 @@ impl DepTable {
     /// Adds a place of `dependency`, and returns its number: the one that it has, or the next one.
     /// The place must be later than all recorded places.
     ///
-    /// Part of the public API; not called by the program, which calls `reserve` and `record`.
-    ///
     /// # Errors
     ///
     /// `NoMemory` if an allocation fails. The dependencies and places do not change.

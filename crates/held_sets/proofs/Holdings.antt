@@ -1,5 +1,5 @@
 -- One lock of a holding, at another depth.
-use Rattle.std.proofs.Common.{◌≡◌, ℕ, zero, suc, ◌-◌, ◌<◌, ◌≤◌, ◌⊎◌, inl, inr, Bool, true, false, cond, not, ◌==◌, ◌||◌, leb, ltb, List, [], ◌∷◌, length, slice_get, slice_set, insert, Some, refl, sym, ap, subst, ◌∙◌, arith}
+use Rattle.std.proofs.Common.{◌≡◌, ℕ, zero, suc, ◌-◌, ◌<◌, ◌≤◌, ◌⊎◌, inl, inr, Bool, true, false, cond, not, ◌==◌, ◌||◌, leb, ltb, List, [], ◌∷◌, length, slice_get, slice_set, insert, Some, None, refl, sym, ap, subst, ◌∙◌, arith}
 use Rattle.std.proofs.lemmas.Bool.{cases_lt, cases_eq, le-leb, lt-leb, lt-ltb, le-ltb, eq-eqb, eqb-true, ne_eqb, leb-true, leb-false, or_parts, false≢true}
 use Rattle.std.proofs.lemmas.List.Kept.{IsStrictlyIncreasing-filter}
 use Rattle.std.proofs.lemmas.Option.{none-some, same_Some}
@@ -10,7 +10,7 @@ use Rattle.trace_model.specs.Theory.Held.{has, with_lock, without_lock}
 use Rattle.trace_model.proofs.Theory.HeldAscends.{Above, Ascends, above_lower}
 use Rattle.trace_model.proofs.Theory.Depths.{above_lacks, with-known}
 use Rattle.held_sets.specs.declared.holding.LockDepth.{LockDepth}
-use Rattle.held_sets.specs.Tables.{locks_of, depth_of, IsHolding, index_for, depth_at, HasDepth, IsHeldAfter}
+use Rattle.held_sets.specs.Tables.{locks_of, depth_of, outer_locks, IsHolding, index_for, depth_at, HasDepth, IsHeldAfter}
 use Rattle.held_sets.proofs.Locks.{ascends_from, with_increases}
 
 -- ---- the index of a lock
@@ -314,3 +314,17 @@ released ds new l n less h = record {
     one : (m : ℕ) (b : Bool) → (l == m) ≡ b → cond b n (depth_of ds m) ≡ cond b (depth_of ds m - 1) (depth_of ds m)
     one m true e = less ∙ ap (λ k. depth_of ds k - 1) (eqb-true l m e)
     one m false e = refl
+
+-- ---- the held set at an outermost acquire
+
+pub outer_of_none : (l : ℕ) (ks : List ℕ) → length ks ≡ 0 → outer_locks l ks ≡ None
+outer_of_none l [] e = refl
+outer_of_none l (k ∷ ks) e = absurd (omega (arith, e))
+
+pub outer_of_held : (l : ℕ) (ks : List ℕ) → has l ks ≡ true → outer_locks l ks ≡ None
+outer_of_held l [] h = refl
+outer_of_held l (k ∷ ks) h = ap (λ (b : Bool). cond b None (Some (k ∷ ks))) h
+
+pub outer_of_some : (l : ℕ) (ks : List ℕ) → has l ks ≡ false → (length ks ≡ 0 → ⊥) → outer_locks l ks ≡ Some ks
+outer_of_some l [] h some = absurd (some refl)
+outer_of_some l (k ∷ ks) h some = ap (λ (b : Bool). cond b None (Some (k ∷ ks))) h

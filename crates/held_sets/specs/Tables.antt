@@ -1,6 +1,6 @@
 -- Tables of the locks that each thread holds, with depths. The held set is the lock set of Havelund
 -- 2000.
-use Rattle.std.specs.Prelude.{◌≡◌, ℕ, suc, ◌<◌, Bool, true, false, ◌==◌, nat_le, List, [], ◌∷◌, ◌++◌, length, map, slice_get, nat_eq, None, Some, unwrap_or, IsSome, Contains, if◌then◌else◌}
+use Rattle.std.specs.Prelude.{◌≡◌, ℕ, suc, ◌<◌, Bool, true, false, ◌==◌, nat_le, List, [], ◌∷◌, ◌++◌, length, map, slice_get, nat_eq, Option, None, Some, unwrap_or, IsSome, Contains, if◌then◌else◌}
 use Rattle.std.specs.List.{AllByRecursion}
 use Rattle.std.specs.List.Sorted.{IsStrictlyIncreasing}
 use Rattle.std.specs.Map.{lookup}
@@ -11,7 +11,7 @@ use Rattle.trace_model.specs.declared.traces.event.Op.TheVariants.{Acquire, Rele
 use Rattle.trace_model.specs.declared.limits.TheConstants.{MAX_HELD, MAX_DEPTH}
 use Rattle.trace_model.specs.Theory.Lawful.{refusal_of, IsWellFormed}
 use Rattle.trace_model.specs.Theory.Trace.{Trace, event, At}
-use Rattle.trace_model.specs.Theory.Held.{with_lock, without_lock, held_after, held_step, depth_after, depth_step}
+use Rattle.trace_model.specs.Theory.Held.{has, with_lock, without_lock, held_after, held_step, depth_after, depth_step}
 use Rattle.trace_model.specs.Theory.Held
 use Rattle.held_sets.specs.declared.holding.LockDepth.{LockDepth}
 
@@ -27,6 +27,11 @@ locks_of ds = map (λ d. d.lock) ds
 abbrev pub depth_of : List LockDepth → ℕ → ℕ
 depth_of [] l = 0
 depth_of (d ∷ ds) l = if d.lock == l then d.depth else depth_of ds l
+
+-- The held set at an outermost acquire of lock l, or none if it is empty or has the lock.
+abbrev pub outer_locks : ℕ → List ℕ → Option (List ℕ)
+outer_locks l [] = None
+outer_locks l (k ∷ ks) = if has l (k ∷ ks) then None else Some (k ∷ ks)
 
 -- The locks ascend, and each depth is above 0.
 pub record IsHolding (ds : List LockDepth) : Type 0 where

@@ -3,7 +3,7 @@
 ghost use Rattle.std.specs.Prelude.{◌≡◌, ◌<◌, ◌≤◌, ◌==◌, [], length, zero, if◌then◌else◌};
 ghost use Rattle.trace_model.specs.declared.traces.event.Op.TheVariants.{Acquire, Release};
 ghost use Rattle.trace_model.specs.declared.limits.TheConstants.{MAX_HELD, MAX_DEPTH};
-ghost use Rattle.held_sets.specs.Tables.{locks_of, depth_of, index_for, depth_at, HasDepth, IsHeldAfter};
+ghost use Rattle.held_sets.specs.Tables.{locks_of, depth_of, outer_locks, index_for, depth_at, HasDepth, IsHeldAfter};
 
 use crate::set::HeldSet;
 use arrayvec::ArrayVec;
@@ -50,6 +50,17 @@ impl Holding {
         ensures { result ≡ locks_of self.now }
     {
         HeldSet::of(self.locks.as_slice())
+    }
+
+    /// Returns the locks, or `None` if there is none or `lock` is one.
+    #[inline(always)]
+    pub(crate) fn outer_locks(&self, lock: u32) -> Option<HeldSet>
+        ensures { result ≡ outer_locks lock (locks_of self.now) }
+    {
+        if self.locks.is_empty() || self.depth(lock) > 0 {
+            return None;
+        }
+        Some(self.locks())
     }
 
     /// Returns the depth of `lock`, 0 if it is not held.

@@ -3,7 +3,7 @@
 ghost use Rattle.std.specs.Prelude.{◌≡◌, ℕ, ◌<◌, [], length, OnOk, OnErr};
 ghost use Rattle.trace_model.specs.declared.traces.event.Op.TheVariants.{Acquire, Release};
 ghost use Rattle.trace_model.specs.declared.limits.TheConstants.{MAX_HELD, MAX_DEPTH};
-ghost use Rattle.held_sets.specs.Tables.{holding_in, held_in, holding_depth, HasThreadEntry, IsAfter};
+ghost use Rattle.held_sets.specs.Tables.{holding_in, held_in, holding_depth, outer_locks, HasThreadEntry, IsAfter};
 
 use crate::holding::Holding;
 use crate::set::HeldSet;
@@ -47,6 +47,18 @@ impl HeldTable {
         }
     }
 
+    /// Returns the locks that `thread` holds, or `None` if it holds none or holds `lock`. Does not
+    /// allocate.
+    #[inline(always)]
+    pub fn outer_locks(&self, thread: u32, lock: u32) -> Option<HeldSet>
+        ensures { result ≡ outer_locks lock (held_in self.now thread) }
+    {
+        match self.threads.get_ref(thread) {
+            Some(holding) => holding.outer_locks(lock),
+            None => None,
+        }
+    }
+
     /// Returns the depth at which `thread` holds `lock`: its acquires less its releases, 0 if it
     /// does not hold the lock. Does not allocate. Part of the public API; not called by the
     /// program.
@@ -61,8 +73,6 @@ impl HeldTable {
 
     /// Records that `thread` acquires `lock`. The depth must be below `MAX_DEPTH`, and a thread
     /// that does not hold the lock must hold fewer than `MAX_HELD` locks.
-    ///
-    /// Part of the public API; not called by the program, which calls `reserve` and `record`.
     ///
     /// # Errors
     ///

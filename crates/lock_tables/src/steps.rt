@@ -69,3 +69,40 @@ pub(crate) fn record_locks(held: &mut HeldTable, event: &Event)
         _ => {}
     }
 }
+
+/// Notes the place of the event, if it has a dependency.
+#[inline(always)]
+pub(crate) fn note_place(
+    table: &mut DepTable,
+    held: &HeldTable,
+    event: &Event,
+    place: Place,
+) -> Result<(), NoMemory>
+    requires { AllBelow table.old place }
+    ensures { OnOk result ((s : Trace) → place ≡ length s →
+        Held.HasHeldSetsOf held.now s (length s) → HasDependenciesOf table.old s (length s) →
+        HasDependenciesOf table.new (s ++ event.now ∷ []) (length (s ++ event.now ∷ []))) }
+{
+    tables_follow(); // for the proof
+    if let Some(dependency) = next_dependency(held, *event) {
+        table.note(place, dependency)?;
+    }
+    Ok(())
+}
+
+/// Records the event in the held locks, and allocates memory for it.
+#[inline(always)]
+pub(crate) fn append_locks(held: &mut HeldTable, event: &Event) -> Result<(), NoMemory>
+    requires { (lock : ℕ) → event.now.op ≡ Acquire lock →
+        Held.Fits held.old event.now.thread lock }
+    ensures { OnOk result ((s : Trace) → Held.HasHeldSetsOf held.old s (length s) →
+        Held.HasHeldSetsOf held.new (s ++ event.now ∷ []) (length (s ++ event.now ∷ []))) }
+{
+    held_follows(); // for the proof
+    match event.op {
+        Op::Acquire(lock) => held.acquire(event.thread, lock)?,
+        Op::Release(lock) => held.release(event.thread, lock),
+        _ => {}
+    }
+    Ok(())
+}

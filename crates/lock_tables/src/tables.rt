@@ -10,7 +10,9 @@ ghost use Rattle.lock_graph.specs.Graph.{IsGraphOf, HasGraphOf, holders};
 ghost use Rattle.lock_tables.specs.Tables.{shared_holders, FollowTrace, HasLockTableRoom, IsLawfulForTables, HasTotal, CountsBelow, AreLockPartsOf};
 
 use crate::parts::LockParts;
-use crate::steps::{record_locks, record_place, reserve_locks, reserve_place};
+use crate::steps::{
+    append_locks, note_place, record_locks, record_place, reserve_locks, reserve_place,
+};
 use dependencies::laws::tables_follow;
 use dependencies::{DepTable, Dependency};
 use held_sets::HeldTable;
@@ -217,10 +219,26 @@ impl LockTables {
         ensures { OnOk result (FollowTrace self.new events.now) }
     {
         for event in events {
-            self.reserve(event)?;
-            self.record(event);
+            self.append(event)?;
         }
         self.catch_up()?;
+        Ok(())
+    }
+
+    /// Records `event`, which must be the next lawful event, and allocates memory for it. The graph
+    /// does not change.
+    #[inline(always)]
+    fn append(&mut self, event: &Event) -> Result<(), NoMemory>
+        requires { IsLawfulForTables self.old event.now }
+        ensures { OnOk result ((s : Trace) → FollowTrace self.old s →
+            FollowTrace self.new (s ++ event.now ∷ [])) }
+    {
+        tables_follow(); // for the proof
+        acquires_fit(); // for the proof
+        let place = Place::new(self.events);
+        note_place(&mut self.dependencies, &self.held, event, place)?;
+        append_locks(&mut self.held, event)?;
+        self.events += 1;
         Ok(())
     }
 
