@@ -42,11 +42,13 @@ fn reserve_one(lists: &mut Lists, alloc: Global, lock: u32) -> Result<(), NoMemo
     ensures ok { OnOk result (HasRoomAt lists.new lock) }
     ensures kept { (other : ℕ) → HasRoomAt lists.old other → HasRoomAt lists.new other }
 {
-    if !lists.contains_key(&lock) {
-        lists.insert(lock, Vec::new(alloc))?;
-    }
-    if let Some(list) = lists.get_mut(&lock) {
-        list.reserve(1)?;
+    match lists.get_mut(&lock) {
+        Some(list) => list.reserve(1)?,
+        None => {
+            let mut list = Vec::new(alloc);
+            list.reserve(1)?;
+            lists.insert(lock, list)?;
+        }
     }
     Ok(())
 }
