@@ -84,13 +84,15 @@ impl HeldSet {
     }
 
     /// Returns a copy of the set. Does not allocate.
+    #[inline(always)]
     pub fn copied(&self) -> HeldSet
         ensures { result ≡ self.now }
     {
-        let Ok(copy) = self.clone() else {
-            unreachable!()
-        };
-        copy
+        let mut locks = ArrayVec::new();
+        for lock in self.locks() {
+            locks.push(*lock);
+        }
+        HeldSet { locks }
     }
 
     /// Adds `lock`, which must not be in the set. The set must have fewer than `MAX_HELD` locks.

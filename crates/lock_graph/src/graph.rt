@@ -7,7 +7,7 @@ ghost use Rattle.trace_model.specs.Theory.Dependencies.{Dependency as Triple};
 ghost use Rattle.lock_graph.specs.Lists.{listed_with};
 ghost use Rattle.lock_graph.specs.Graph.{IsGraphOf, HasGraphRoom, holders, holders_at, holders_below};
 
-use crate::lists::{Lists, record, reserve};
+use crate::lists::{Lists, add, record, reserve};
 use dependencies::Dependency;
 use indexmap::IndexMap;
 use std::alloc::Global;
@@ -48,13 +48,11 @@ impl LockGraph {
             IsGraphOf (ds ++ dependency.now ∷ []) (holders self.new)) }
         ensures err { OnErr result ((lock : ℕ) → holders self.new lock ≡ holders self.old lock) }
     {
-        self.reserve(number, dependency)?;
-        self.record(number, dependency);
-        Ok(())
+        add(&mut self.lists, self.alloc, dependency.held.locks(), number)
     }
 
     /// Reserves memory for one more number at each lock that `dependency` holds. The successors of
-    /// each lock do not change.
+    /// each lock do not change. Part of the public API; not called by the program, which calls `add`.
     ///
     /// # Errors
     ///
@@ -67,7 +65,7 @@ impl LockGraph {
     }
 
     /// Adds a dependency at each lock that it holds, as `add` does. Memory must be reserved. Does
-    /// not allocate.
+    /// not allocate. Part of the public API; not called by the program, which calls `add`.
     pub fn record(&mut self, number: u32, dependency: &Dependency)
         requires { HasGraphRoom self.old dependency.now.held }
         ensures lists { (lock : ℕ) →

@@ -1,6 +1,6 @@
 //! Lists of numbers by lock.
 
-ghost use Rattle.std.specs.Prelude.{◌≡◌, ℕ, ◌++◌, ◌∷◌, [], nat_eq, cond, OnOk, false};
+ghost use Rattle.std.specs.Prelude.{◌≡◌, ℕ, ◌++◌, ◌∷◌, [], nat_eq, cond, OnOk, OnErr, false};
 ghost use Rattle.std.specs.HashMap.{get};
 ghost use Rattle.std.specs.List.Sorted.{IsStrictlyIncreasing};
 ghost use Rattle.lock_graph.specs.Lists.{lock_numbers, listed_with, HasRoomAt, HaveListRoom};
@@ -12,6 +12,28 @@ use trace_model::NoMemory;
 
 /// The list of numbers of each lock.
 pub(crate) type Lists = IndexMap<u32, Vec<u32>, RandomState>;
+
+/// Adds a number at each of the locks, which must ascend.
+pub(crate) fn add(
+    lists: &mut Lists,
+    alloc: Global,
+    locks: &[u32],
+    number: u32,
+) -> Result<(), NoMemory>
+    requires { IsStrictlyIncreasing locks.now }
+    ensures ok { OnOk result ((other : ℕ) →
+        lock_numbers lists.new other ≡ listed_with locks.now number other
+        (lock_numbers lists.old other)) }
+    ensures err { OnErr result ((other : ℕ) →
+        lock_numbers lists.new other ≡ lock_numbers lists.old other) }
+{
+    if let [lock] = locks {
+        return add_one(lists, alloc, *lock, number);
+    }
+    reserve(lists, alloc, locks)?;
+    record(lists, locks, number);
+    Ok(())
+}
 
 /// Reserves memory for one more number at each of the locks.
 pub(crate) fn reserve(lists: &mut Lists, alloc: Global, locks: &[u32]) -> Result<(), NoMemory>
@@ -66,4 +88,23 @@ fn record_one(lists: &mut Lists, lock: u32, number: u32)
     if let Some(list) = lists.get_mut(&lock) {
         list.push_reserved(number);
     }
+}
+
+/// Adds a number at a lock, which is hashed once.
+fn add_one(lists: &mut Lists, alloc: Global, lock: u32, number: u32) -> Result<(), NoMemory>
+    ensures ok { OnOk result ((other : ℕ) →
+        lock_numbers lists.new other ≡ listed_with (lock ∷ []) number other
+        (lock_numbers lists.old other)) }
+    ensures err { OnErr result ((other : ℕ) →
+        lock_numbers lists.new other ≡ lock_numbers lists.old other) }
+{
+    match lists.get_mut(&lock) {
+        Some(list) => list.push(number)?,
+        None => {
+            let mut list = Vec::new(alloc);
+            list.push(number)?;
+            lists.insert(lock, list)?;
+        }
+    }
+    Ok(())
 }
