@@ -57,6 +57,7 @@ impl Entries {
     }
 
     /// Reserves memory for one more place, of a known or a new dependency.
+    #[inline(always)]
     pub(crate) fn reserve(&mut self) -> Result<(), NoMemory>
         requires { length (listing_of self.old) ≤ 4294967296 }
         ensures shown { listing_of self.new ≡ listing_of self.old }
@@ -69,6 +70,7 @@ impl Entries {
     }
 
     /// Adds a place of the dependency, and returns its number. Memory must be reserved.
+    #[inline(always)]
     pub(crate) fn record(&mut self, place: Place, dependency: Dependency) -> usize
         requires room { (shown_by self.old).room ≡ true }
         requires kept { AreRightEntries self.old }

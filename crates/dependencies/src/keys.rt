@@ -79,6 +79,7 @@ impl Keys {
     }
 
     /// Returns whether `dependency` has this number.
+    #[inline(always)]
     fn is_at(&self, number: usize, dependency: &Dependency) -> bool
         ensures there { result ≡ passes_at (same_dependency dependency.now) self.now.keys number }
         ensures first { result ≡ true →
@@ -109,6 +110,7 @@ impl Keys {
 
     /// Returns the number of `dependency`. A new one is added at the end. Memory must be reserved,
     /// and its number must have 32 bits.
+    #[inline(always)]
     pub(crate) fn record(&mut self, dependency: Dependency) -> usize
         requires room { self.old.room ≡ true }
         requires few { length self.old.keys < 4294967296 }

@@ -76,6 +76,7 @@ impl DepTable {
     /// # Errors
     ///
     /// `NoMemory` if an allocation fails. The dependencies and places do not change.
+    #[inline(always)]
     pub fn note(&mut self, place: Place, dependency: Dependency) -> Result<u32, NoMemory>
         requires { AllBelow self.old place }
         ensures ok { IfOk result (λ number. IsNoted self.old place dependency number self.new) }
@@ -91,6 +92,7 @@ impl DepTable {
     /// # Errors
     ///
     /// `NoMemory` if an allocation fails.
+    #[inline(always)]
     pub fn reserve(&mut self, _place: Place, _dependency: &Dependency) -> Result<(), NoMemory>
         ensures shown { self.new.shown ≡ self.old.shown }
         ensures ok { OnOk result (self.new.room ≡ true) }
@@ -100,6 +102,7 @@ impl DepTable {
 
     /// Adds a place of `dependency`, as `note` does, and returns its number. Memory must be
     /// reserved, and the place must be later than all recorded places. Does not allocate.
+    #[inline(always)]
     pub fn record(&mut self, place: Place, dependency: Dependency) -> u32
         requires room { self.old.room ≡ true }
         requires below { AllBelow self.old place }

@@ -46,6 +46,7 @@ impl Holding {
     }
 
     /// Returns the locks.
+    #[inline(always)]
     pub(crate) fn locks(&self) -> HeldSet
         ensures { result ≡ locks_of self.now }
     {
@@ -64,6 +65,7 @@ impl Holding {
     }
 
     /// Returns the depth of `lock`, 0 if it is not held.
+    #[inline(always)]
     pub(crate) fn depth(&self, lock: u32) -> u8
         ensures { result ≡ depth_of self.now lock }
     {
@@ -111,6 +113,7 @@ impl Holding {
 }
 
 /// Returns the index of `lock`, or the index at which it is to be inserted.
+#[inline(always)]
 fn index_for(locks: &[LockDepth], lock: u32) -> usize
     ensures { result ≡ index_for lock locks.now }
 {
@@ -123,6 +126,7 @@ fn index_for(locks: &[LockDepth], lock: u32) -> usize
 }
 
 /// Returns the depth of `lock` if it is at `index`, else 0.
+#[inline(always)]
 fn found_depth(locks: &[LockDepth], index: usize, lock: u32) -> u8
     ensures { result ≡ depth_at lock locks.now index }
 {

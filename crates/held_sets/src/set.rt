@@ -43,6 +43,7 @@ impl HeldSet {
     }
 
     /// Returns the locks of a holding.
+    #[inline(always)]
     pub(crate) fn of(holding: &[LockDepth]) -> HeldSet
         requires ascends { IsStrictlyIncreasing (locks_of holding.now) }
         requires few { length holding.now ≤ MAX_HELD }

@@ -77,6 +77,7 @@ impl HeldTable {
     /// # Errors
     ///
     /// `NoMemory` if an allocation fails. The held locks do not change.
+    #[inline(always)]
     pub fn acquire(&mut self, thread: u32, lock: u32) -> Result<(), NoMemory>
         requires nested { holding_depth self.old thread lock < MAX_DEPTH }
         requires room { holding_depth self.old thread lock ≡ 0 →
