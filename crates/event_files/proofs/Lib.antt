@@ -6,9 +6,12 @@ pub mod ExplainedReadings
 pub mod ExplainedTexts
 pub mod ExplainedUnique
 pub mod FirstEvents
+pub mod FirstLines
+pub mod LeadingDigits
 pub mod Lines
 pub mod NumberedTexts
 pub mod Numerals
+pub mod ReadLines
 pub mod RefutationTexts
 pub mod StatedLines
 pub mod WitnessLines

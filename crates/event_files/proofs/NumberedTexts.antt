@@ -18,7 +18,7 @@ use Rattle.event_files.specs.EventFile.{is_no_digit}
 use Rattle.event_files.specs.NumberedText.{AreSmall, after_space, is_after_number, is_after_numbers, after_spaces}
 use Rattle.event_files.specs.Refutations.{label_and_number}
 
-digit_is : (c : ℕ) → 48 ≤ c → c ≤ 57 → is_ascii_digit c ≡ true
+pub digit_is : (c : ℕ) → 48 ≤ c → c ≤ 57 → is_ascii_digit c ≡ true
 digit_is c low high = grind (arith, nat_tests)
 
 -- how many digits a text of digits has before another byte

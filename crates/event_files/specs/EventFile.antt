@@ -1,12 +1,12 @@
 -- The text format of events.
-use Rattle.std.specs.Prelude.{◌≡◌, ◌+◌, ℕ, Bool, true, false, not, ◌==◌, List, [], ◌∷◌, ◌++◌, Some, decimal, if◌then◌else◌, map, slice_get, take}
+use Rattle.std.specs.Prelude.{◌≡◌, ◌+◌, ℕ, Bool, true, false, not, ◌==◌, List, [], ◌∷◌, ◌++◌, ◌||◌, Some, decimal, if◌then◌else◌, map, slice_get, take}
 use Rattle.std.specs.Char.{is_ascii_digit}
 use Rattle.std.specs.List.{filter, flat_map, slice_split}
 use Rattle.trace_model.specs.declared.limits.TheConstants.{MAX_EVENTS}
 use Rattle.trace_model.specs.declared.traces.event.Event.{Event}
 use Rattle.trace_model.specs.declared.traces.event.Op.{Op}
 use Rattle.trace_model.specs.declared.traces.event.Op.TheVariants.{Fork, Join, Acquire, Release, Read, Write}
-use Rattle.trace_model.specs.Protocol.Frames.{IsRequest, object_of}
+use Rattle.trace_model.specs.Protocol.Frames.{FitsWords, IsRequest, object_of}
 use Rattle.trace_model.specs.declared.messages.session.Request.TheVariants.{Offer}
 use Rattle.event_files.specs.declared.refused.FileRefused.{FileRefused}
 use Rattle.event_files.specs.declared.refused.FileRefused.TheVariants.{Line, NoMemory}
@@ -47,9 +47,13 @@ abbrev pub unless_comment : List (List ℕ) → List (List ℕ)
 unless_comment [] = []
 unless_comment (word ∷ more) = if is_comment word then [] else word ∷ more
 
+-- The pieces of a line between its spaces, without empty pieces.
+abbrev pub spaced_words : List ℕ → List (List ℕ)
+spaced_words line = filter is_word (pieces_at 32 line)
+
 -- The words of a line, which spaces separate.
 abbrev pub line_words : List ℕ → List (List ℕ)
-line_words line = unless_comment (filter is_word (pieces_at 32 line))
+line_words line = unless_comment (spaced_words line)
 
 -- The words of a file, whose lines line feeds separate.
 abbrev pub file_words : List ℕ → List (List ℕ)
@@ -87,6 +91,52 @@ IsEventWord word = (e : Event) × IsRequest (Offer e) × (word ≡ event_word e)
 abbrev pub HasBadWord : List (List ℕ) → Type 0
 HasBadWord words =
     (i : ℕ) × (word : List ℕ) × (slice_get words i ≡ Some word) × (IsEventWord word → ⊥)
+
+-- A word can end before the text: at the end of the file or of a line, or before a space.
+abbrev pub ends_word : List ℕ → Bool
+ends_word [] = true
+ends_word (byte ∷ more) = byte == 32 || byte == 10
+
+-- The text begins with the word of an event, and the rest follows it: the new events are the old
+-- ones with this one.
+pub record KeepsFirstWord (old : List Event) (text : List ℕ) (new : List Event)
+    (rest : List ℕ) : Type 0 where
+  pub event : Event
+  pub first : text ≡ event_word event ++ rest
+  pub fits : FitsWords event
+  pub ends : ends_word rest ≡ true
+  pub kept : KeepsWords old (event_word event ∷ []) new
+
+-- The first word of the text denotes no event.
+abbrev pub BeginsWithNoEvent : List ℕ → Type 0
+BeginsWithNoEvent text = (e : Event) (rest : List ℕ) → IsRequest (Offer e) → ends_word rest ≡ true →
+    text ≡ event_word e ++ rest → ⊥
+
+-- The refusal of the first word of the text, in the line with this number, is right.
+abbrev pub RefusesFirstWord : List ℕ → ℕ → FileRefused → Type 0
+RefusesFirstWord text number (Line refused) = (refused ≡ number) × BeginsWithNoEvent text
+RefusesFirstWord text number NoMemory = Unit {0}
+
+-- The first line of the text has these words, and the others follow it: the new events are the old
+-- ones with those of the words.
+pub record KeepsLine (words : List ℕ → List (List ℕ)) (old : List Event) (text : List ℕ)
+    (new : List Event) (later : List (List ℕ)) : Type 0 where
+  pub line : List ℕ
+  pub first : pieces_at 10 text ≡ line ∷ later
+  pub kept : KeepsWords old (words line) new
+
+-- One of these words of the first line of the text denotes no event.
+pub record BeginsWithBadLine (words : List ℕ → List (List ℕ)) (text : List ℕ) : Type 0 where
+  pub line : List ℕ
+  pub later : List (List ℕ)
+  pub first : pieces_at 10 text ≡ line ∷ later
+  pub bad : HasBadWord (words line)
+
+-- The refusal of the first line of the text, which has this number, is right.
+abbrev pub RefusesLine : (List ℕ → List (List ℕ)) → List ℕ → ℕ → FileRefused → Type 0
+RefusesLine words text number (Line refused) =
+    (refused ≡ number) × BeginsWithBadLine words text
+RefusesLine words text number NoMemory = Unit {0}
 
 -- The line with this number, counted from 1, is the first that is not understood.
 pub record IsFirstBad (lines : List (List ℕ)) (number : ℕ) : Type 0 where

@@ -1,14 +1,15 @@
 //! Event files: lines of event words.
-ghost use Rattle.std.specs.Prelude.{◌≡◌, ◌<◌, ◌^◌, ◌∷◌, ◌++◌, [], ℕ, true, false, IfErr, IfOk, IfSome, Ok, Some, decimal, map};
+ghost use Rattle.std.specs.Prelude.{◌≡◌, ◌<◌, ◌^◌, ◌∷◌, ◌++◌, ◌≢◌, ◌==◌, [], ℕ, true, false, IfErr, IfOk, IfSome, IsSomeAnd, List, MatchOption, Ok, OnOk, Some, decimal, length, map, replicate, slice_get, get_or};
 ghost use Rattle.std.specs.List.{All, filter, position};
 ghost use Rattle.trace_model.specs.Protocol.Frames.{FitsWords, IsRequest, object_of};
 ghost use Rattle.trace_model.specs.declared.traces.event.Event.{Event};
 ghost use Rattle.trace_model.specs.declared.traces.event.Op.{Op};
 ghost use Rattle.trace_model.specs.declared.messages.session.Request.TheVariants.{Offer};
-ghost use Rattle.event_files.specs.EventFile.{is_no_digit, is_word, letter_of, event_word, pieces_at, is_comment, line_words, AreFirstEventsOf, HasBadWord, IsEventWord, KeepsWords, RefusesLines};
+ghost use Rattle.event_files.specs.EventFile.{is_word, letter_of, event_word, pieces_at, is_comment, AreFirstEventsOf, HasBadWord, KeepsFirstWord, KeepsLine, KeepsWords, RefusesFirstWord, RefusesLine, RefusesLines, ends_word, line_words, spaced_words};
+ghost use Rattle.event_files.specs.NumberedText.{is_after_number};
 ghost use Rattle.event_files.specs.WitnessFile.{has_words};
 
-use crate::numbers::parse_number;
+use crate::numbered_text::number_in;
 use crate::refused::FileRefused;
 use std::alloc::{AllocError, Global};
 use trace_model::{Event, MAX_EVENTS, NoMemory, Op};
@@ -30,11 +31,23 @@ fn op_of(letter: u8, object: u32) -> Option<Op>
     }
 }
 
-/// Returns the index of the first byte that is not a digit, or `None`.
-pub(crate) fn letter_place(word: &[u8]) -> Option<usize>
-    ensures { result ≡ position is_no_digit word.now }
+/// Returns the event whose word begins the text, and the text after the word, or `None` if no word
+/// of an event does.
+#[inline(always)]
+fn event_in(text: &[u8]) -> Option<(Event, &[u8])>
+    ensures sound { IfSome result (λ found. text.now ≡ event_word found.0 ++ found.1.now) }
+    ensures fits { IfSome result (λ found. FitsWords found.0) }
+    ensures complete { (e : Event) (rest : List ℕ) → IsRequest (Offer e) →
+        is_after_number rest ≡ true → text.now ≡ event_word e ++ rest →
+        IsSomeAnd result (λ found. (found.0 ≡ e) × (found.1.now ≡ rest)) }
 {
-    word.iter().position(|byte| !byte.is_ascii_digit())
+    let (thread, after) = number_in(text)?;
+    let [letter, digits @ ..] = after else {
+        return None;
+    };
+    let (object, rest) = number_in(digits)?;
+    let op = op_of(*letter, object)?;
+    Some((Event { thread, op }, rest))
 }
 
 /// Returns the event that `word` denotes, or `None`. A word is the thread, the letter of the
@@ -45,11 +58,8 @@ pub fn event(word: &[u8]) -> Option<Event>
     ensures complete { (e : Event) → IsRequest (Offer e) → word.now ≡ event_word e →
         result ≡ Some e }
 {
-    let place = letter_place(word)?;
-    let thread = parse_number(&word[..place])?;
-    let object = parse_number(&word[place + 1..])?;
-    let op = op_of(word[place], object)?;
-    Some(Event { thread, op })
+    let (event, rest) = event_in(word)?;
+    if rest.is_empty() { Some(event) } else { None }
 }
 
 /// Returns the pieces of `bytes` between the bytes equal to `mark`.
@@ -133,25 +143,6 @@ pub fn push_events(events: &mut Vec<Event>, words: &[&[u8]]) -> Result<bool, NoM
 /// one, which the admission check refuses.
 const MAX_KEPT: usize = MAX_EVENTS + 1;
 
-/// Adds the event of `word` at the end of `kept`, if there is room. Returns false if the word is
-/// not an event word.
-///
-/// # Errors
-///
-/// `NoMemory` if an allocation fails.
-fn keep_word(kept: &mut Vec<Event>, word: &[u8]) -> Result<bool, NoMemory>
-    ensures kept { result ≡ Ok true → KeepsWords kept.old.items (word.now ∷ []) kept.new.items }
-    ensures bad { result ≡ Ok false → IsEventWord word.now → ⊥ }
-{
-    let Some(event) = event(word) else {
-        return Ok(false);
-    };
-    if kept.len() < MAX_KEPT {
-        kept.push(event)?;
-    }
-    Ok(true)
-}
-
 /// Returns whether the line has words and is no comment.
 pub(crate) fn has_words(line: &[u8]) -> bool
     ensures { result ≡ has_words (line_words line.now) }
@@ -164,27 +155,157 @@ pub(crate) fn has_words(line: &[u8]) -> bool
     false
 }
 
-/// Adds the events of a line at the end of `kept`, as long as there is room. Returns false if the
-/// line is not understood.
+/// Returns the text after its first byte.
+#[inline(always)]
+fn after_byte(text: &[u8]) -> &[u8]
+    requires { 0 < length text.now }
+    ensures { text.now ≡ get_or text.now 0 0 ∷ result.now }
+{
+    &text[1..]
+}
+
+/// Returns the text after the spaces at its beginning.
+fn after_spaces(text: &[u8]) -> &[u8]
+    ensures spaces { (count : ℕ) × (text.now ≡ replicate count 32 ++ result.now) }
+    ensures other { slice_get result.now 0 ≢ Some 32 }
+{
+    let mut count = 0;
+    while count < text.len() && text[count] == b' ' {
+        count += 1;
+    }
+    &text[count..]
+}
+
+/// Returns the index of the first line feed, or `None`.
+fn line_end(text: &[u8]) -> Option<usize>
+    ensures { result ≡ position (λ byte. byte == 10) text.now }
+{
+    text.iter().position(|byte| *byte == b'\n')
+}
+
+/// Returns the lines after the first one, or `None` if it is the last.
+fn later_lines(text: &[u8]) -> Option<&[u8]>
+    ensures { (line : List ℕ) × MatchOption result (pieces_at 10 text.now ≡ line ∷ [])
+        (λ rest. pieces_at 10 text.now ≡ line ∷ pieces_at 10 rest.now) }
+{
+    let place = line_end(text)?;
+    Some(&text[place + 1..])
+}
+
+/// Returns whether a word can end before the text: at the end of the file or of a line, or before a
+/// space.
+#[inline(always)]
+fn ends_word(text: &[u8]) -> bool
+    ensures { result ≡ ends_word text.now }
+{
+    match text {
+        [] => true,
+        [byte, ..] => *byte == b' ' || *byte == b'\n',
+    }
+}
+
+/// Adds an event at the end of `kept`, if there is room.
 ///
 /// # Errors
 ///
-/// `NoMemory` if an allocation fails. Some of the events may have been added.
-fn keep_line(kept: &mut Vec<Event>, line: &[u8]) -> Result<bool, NoMemory>
-    ensures kept { result ≡ Ok true →
-        KeepsWords kept.old.items (line_words line.now) kept.new.items }
-    ensures bad { result ≡ Ok false → HasBadWord (line_words line.now) }
+/// `NoMemory` if an allocation fails.
+#[inline(always)]
+fn keep_event(kept: &mut Vec<Event>, event: Event) -> Result<(), NoMemory>
+    ensures { OnOk result (KeepsWords kept.old.items (event_word event ∷ []) kept.new.items) }
 {
-    if !has_words(line) {
-        return Ok(true);
+    if kept.len() < MAX_KEPT {
+        kept.push(event)?;
     }
-    let pieces = line.split(|byte| *byte == b' ');
-    for word in pieces.filter(|piece| !piece.is_empty()) {
-        if !keep_word(kept, word)? {
-            return Ok(false);
+    Ok(())
+}
+
+/// Adds the event of the first word at the end of `kept`, if there is room, and returns the text
+/// after the word.
+///
+/// # Errors
+///
+/// - `Line` with this number if the word is not an event word.
+/// - `NoMemory` if an allocation fails.
+#[inline(always)]
+fn keep_word<'a>(
+    kept: &mut Vec<Event>,
+    text: &'a [u8],
+    number: usize,
+) -> Result<&'a [u8], FileRefused>
+    ensures kept { IfOk result
+        (λ rest. KeepsFirstWord kept.old.items text.now kept.new.items rest.now) }
+    ensures refused { IfErr result (RefusesFirstWord text.now number) }
+{
+    let Some((event, rest)) = event_in(text) else {
+        return Err(FileRefused::Line(number));
+    };
+    if !ends_word(rest) {
+        return Err(FileRefused::Line(number));
+    }
+    keep_event(kept, event)?;
+    Ok(rest)
+}
+
+/// Adds the events of the words of the first line at the end of `kept`, as long as there is room.
+/// Returns the lines after it, or `None` if it is the last.
+///
+/// # Errors
+///
+/// - `Line` with this number if some word is not an event word.
+/// - `NoMemory` if an allocation fails. Some of the events may have been added.
+#[inline(always)]
+fn keep_words<'a>(
+    kept: &mut Vec<Event>,
+    text: &'a [u8],
+    number: usize,
+) -> Result<Option<&'a [u8]>, FileRefused>
+    ensures kept { IfOk result (λ later. MatchOption later
+        (KeepsLine spaced_words kept.old.items text.now kept.new.items [])
+        (λ rest. KeepsLine spaced_words kept.old.items text.now kept.new.items
+        (pieces_at 10 rest.now))) }
+    ensures refused { IfErr result (RefusesLine spaced_words text.now number) }
+{
+    let mut rest = text;
+    loop {
+        if rest.is_empty() {
+            return Ok(None);
+        }
+        if rest[0] == b'\n' {
+            return Ok(Some(after_byte(rest)));
+        }
+        if rest[0] == b' ' {
+            rest = after_byte(rest);
+        } else {
+            rest = keep_word(kept, rest, number)?;
         }
     }
-    Ok(true)
+}
+
+/// Adds the events of the first line at the end of `kept`, as long as there is room. Returns the
+/// lines after it, or `None` if it is the last.
+///
+/// # Errors
+///
+/// - `Line` with this number if the line is not understood.
+/// - `NoMemory` if an allocation fails. Some of the events may have been added.
+#[inline(always)]
+fn keep_line<'a>(
+    kept: &mut Vec<Event>,
+    text: &'a [u8],
+    number: usize,
+) -> Result<Option<&'a [u8]>, FileRefused>
+    ensures kept { IfOk result (λ later. MatchOption later
+        (KeepsLine line_words kept.old.items text.now kept.new.items [])
+        (λ rest. KeepsLine line_words kept.old.items text.now kept.new.items
+        (pieces_at 10 rest.now))) }
+    ensures refused { IfErr result (RefusesLine line_words text.now number) }
+{
+    let rest = after_spaces(text);
+    if is_comment(rest) {
+        Ok(later_lines(rest))
+    } else {
+        keep_words(kept, rest, number)
+    }
 }
 
 /// Returns the events of a file, in order, but at most one more than a trace has. Each word of the
@@ -199,12 +320,11 @@ pub fn read_events(alloc: Global, file: &[u8]) -> Result<Vec<Event>, FileRefused
     ensures refused { IfErr result (RefusesLines (pieces_at 10 file.now)) }
 {
     let mut kept = Vec::new(alloc);
-    let mut number = 0usize;
-    for line in file.split(|byte| *byte == b'\n') {
+    let mut number = 1usize;
+    let mut rest = file;
+    while let Some(more) = keep_line(&mut kept, rest, number)? {
         number = number.saturating_add(1);
-        if !keep_line(&mut kept, line)? {
-            return Err(FileRefused::Line(number));
-        }
+        rest = more;
     }
     Ok(kept)
 }

@@ -1,13 +1,12 @@
 //! Parses texts in which numbers stand between literals.
 ghost use Rattle.std.specs.Bool.{Decides};
-ghost use Rattle.std.specs.Prelude.{◌≡◌, ◌≢◌, ◌<◌, ◌^◌, ◌++◌, ℕ, List, IfOk, IfSome, IsSomeAnd, MatchOption, Some, decimal, true};
+ghost use Rattle.std.specs.Prelude.{◌≡◌, ◌≢◌, ◌<◌, ◌≤◌, ◌^◌, ◌++◌, ℕ, List, IfOk, IfSome, IsSomeAnd, MatchOption, Some, decimal, length, min, take, true};
 ghost use Rattle.std.specs.List.{position_or_len};
+ghost use Rattle.std.specs.Str.Parse.{AllDigits, digits_value};
 ghost use Rattle.event_files.specs.EventFile.{is_no_digit};
 ghost use Rattle.event_files.specs.NumberedText.{AreSmall, is_after_number, is_after_numbers, after_spaces};
 ghost use Rattle.event_files.specs.Refutations.{label_and_number};
 
-use crate::event_file::letter_place;
-use crate::numbers::parse_number;
 use std::alloc::Global;
 use trace_model::NoMemory;
 
@@ -26,26 +25,46 @@ pub(crate) fn after<'a>(text: &'a [u8], literal: &[u8]) -> Option<&'a [u8]>
     text.strip_prefix(literal)
 }
 
-/// Returns the number of digits at the beginning of the text.
-fn digit_count(text: &[u8]) -> usize
-    ensures { result ≡ position_or_len is_no_digit text.now }
+/// The greatest number of digits of a number that fits in 32 bits.
+const MAX_DIGITS: usize = 10;
+
+/// Returns how many digits the text begins with, at most `MAX_DIGITS`, and their value.
+#[inline(always)]
+fn digits_in(text: &[u8]) -> (usize, u64)
+    ensures count { result.0 ≡ min 10 (position_or_len is_no_digit text.now) }
+    ensures within { result.0 ≤ length text.now }
+    ensures digits { AllDigits 10 (take result.0 text.now) }
+    ensures value { result.1 ≡ digits_value 10 (take result.0 text.now) }
 {
-    match letter_place(text) {
-        Some(place) => place,
-        None => text.len(),
+    let most = text.len().min(MAX_DIGITS);
+    let mut count = 0;
+    let mut value = 0;
+    while count < most && text[count].is_ascii_digit() {
+        value = value * 10 + u64::from(text[count] - b'0');
+        count += 1;
     }
+    (count, value)
 }
 
 /// Returns the number at the beginning of the text and the rest, or `None` if there is no number.
+#[inline(always)]
 pub(crate) fn number_in(text: &[u8]) -> Option<(u32, &[u8])>
     ensures sound { IfSome result (λ found. text.now ≡ decimal found.0 ++ found.1.now) }
     ensures complete { (n : ℕ) (rest : List ℕ) → n < 2 ^ 32 → is_after_number rest ≡ true →
         text.now ≡ decimal n ++ rest →
         IsSomeAnd result (λ found. (found.0 ≡ n) × (found.1.now ≡ rest)) }
 {
-    let digits = digit_count(text);
-    let value = parse_number(&text[..digits])?;
-    Some((value, &text[digits..]))
+    let (count, value) = digits_in(text);
+    if count == 0 {
+        return None;
+    }
+    if text[0] == b'0' && count > 1 {
+        return None;
+    }
+    if value > u64::from(u32::MAX) {
+        return None;
+    }
+    Some((value as u32, &text[count..]))
 }
 
 /// Returns the number after the literal and the rest, or `None`.
