@@ -69,10 +69,12 @@ impl RowPrinter {
     /// `NoMemory` if an allocation fails.
     pub fn new(alloc: Global, events: u32, rows: &ReportRows) -> Result<RowPrinter, NoMemory> {
         let longest = rows.longest.min(u64::from(u32::MAX)) as u32;
+        // The longest row has each place once, so it alone is no reason for a cache.
+        let others = rows.bytes.saturating_sub(rows.longest);
         Ok(RowPrinter {
             alloc,
             members: Vec::with_capacity(alloc, MAX_MEMBERS)?,
-            buffer: TextBuffer::with_room(alloc, longest, events, rows.bytes)?,
+            buffer: TextBuffer::with_room(alloc, longest, events, others)?,
         })
     }
 

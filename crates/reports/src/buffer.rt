@@ -59,7 +59,8 @@ impl TextBuffer {
     }
 
     /// Returns an empty buffer with memory for `room` bytes. Runs of places of a trace with
-    /// `events` events are copied from the cache, if all texts together have enough bytes for one.
+    /// `events` events are copied from a cache, whose size depends on `bytes`: the number of bytes
+    /// of the texts for which it is worth its memory.
     ///
     /// # Errors
     /// `NoMemory` if an allocation fails.
@@ -112,17 +113,39 @@ impl TextBuffer {
         write_row(self, row)
     }
 
+    /// Appends those of `count` consecutive numbers from `first` on that are in the cache, and
+    /// returns how many these are. The others follow them.
+    ///
+    /// # Errors
+    /// `NoMemory` if an allocation fails; a part may have been appended.
+    fn put_cached(&mut self, first: u32, count: usize) -> Result<usize, NoMemory>
+        requires { first + count ≤ 2 ^ 32 }
+        ensures { IfOk result (λ cached. (cached ≤ count)
+            × (self.new ≡ self.old ++ run_text first cached)) }
+    {
+        let cached = self
+            .numeral_cache
+            .count
+            .saturating_sub(first as usize)
+            .min(count);
+        if cached == 0 {
+            return Ok(0);
+        }
+        let run = self.numeral_cache.run(first, cached);
+        self.text.extend_from_slice(run)?;
+        Ok(cached)
+    }
+
     /// Appends consecutive numbers one by one.
     ///
     /// # Errors
     /// `NoMemory` if an allocation fails; a part may have been appended.
-    fn put_each(&mut self, first: u32, count: usize) -> Result<(), NoMemory>
+    fn put_each(&mut self, first: usize, count: usize) -> Result<(), NoMemory>
         requires { first + count ≤ 2 ^ 32 }
         ensures { OnOk result
             (self.new ≡ self.old ++ run_text first count) }
     {
-        let first = first as usize;
-        append_run(&mut self.text, &mut self.digits, first, first + count)
+        append_run(&mut self.text, first, first + count)
     }
 }
 
@@ -143,12 +166,10 @@ impl Sink for TextBuffer {
     }
 
     fn put_run(&mut self, first: u32, count: usize) -> Result<(), NoMemory> {
-        if first as usize + count <= self.numeral_cache.count {
-            self.text
-                .extend_from_slice(self.numeral_cache.run(first, count))?;
-            Ok(())
-        } else {
-            self.put_each(first, count)
+        let cached = self.put_cached(first, count)?;
+        if cached == count {
+            return Ok(());
         }
+        self.put_each(first as usize + cached, count - cached)
     }
 }

@@ -1,9 +1,0 @@
-use Rattle.std.proofs.lemmas.Result.{IfOk-from_err}
-use Rattle.reports.proofs.numeral_cache.append_number.Goals as goal
-
-pub returns-in_err-extend_from_slice : goal.returns-in_err-extend_from_slice
-returns-in_err-extend_from_slice c = IfOk-from_err c.from_residual.result _ c.from_residual.ensures.0
-
-pub returns-in_err-extend_from_slice-2 : goal.returns-in_err-extend_from_slice-2
-returns-in_err-extend_from_slice-2 c =
-    IfOk-from_err c.from_residual-in_err-extend_from_slice-2.result _ c.from_residual-in_err-extend_from_slice-2.ensures.0
