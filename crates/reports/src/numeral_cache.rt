@@ -104,20 +104,19 @@ impl Numeral {
         Numeral { number, text }
     }
 
-    /// Returns the numeral of the next number. Of ten times nine only the last digit changes.
+    /// Goes on to the next number. Of ten times nine only the last digit changes.
     #[inline(always)]
-    fn next(self) -> Numeral
-        requires { self.number + 1 < 2 ^ 64 }
-        ensures { result.number ≡ self.number + 1 }
+    fn advance(&mut self)
+        requires { self.old.number + 1 < 2 ^ 64 }
+        ensures { self.new.number ≡ self.old.number + 1 }
     {
-        let Numeral { number, mut text } = self;
-        let next = number + 1;
-        match text.pop() {
-            Some(digit) if digit < b'9' => {
-                text.push(digit + 1);
-                Numeral { number: next, text }
-            }
-            _ => Numeral::of(next),
+        let digit = self.text.as_slice()[self.text.len() - 1];
+        if digit < b'9' {
+            self.text.pop();
+            self.text.push(digit + 1);
+            self.number += 1;
+        } else {
+            *self = Numeral::of(self.number + 1);
         }
     }
 }
@@ -132,7 +131,7 @@ pub(crate) fn append_run(text: &mut Vec<u8>, first: usize, end: usize) -> Result
     let mut numeral = Numeral::of(first);
     while numeral.number < end {
         text.extend_from_slice(numeral.text.as_slice())?;
-        numeral = numeral.next();
+        numeral.advance();
     }
     Ok(())
 }

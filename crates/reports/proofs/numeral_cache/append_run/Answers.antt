@@ -8,8 +8,8 @@ loop-numeral-preserved c =
     let before = c.args.text.now.items in
     let first = c.args.first in
     let number = c.loop-numeral.numeral.number in
-    let next = c.next-numeral.ensures in
-    let more : number - first + 1 ≡ c.next-numeral.result.number - first = omega (arith, next, c.loop-numeral.invariant.least) in
+    let next = c.advance.ensures in
+    let more : number - first + 1 ≡ c.advance.new.self.number - first = omega (arith, next, c.loop-numeral.invariant.least) in
     record {
       least = omega (arith, next, c.loop-numeral.invariant.least);
       most = omega (arith, next, c.loop-numeral-test.true);
