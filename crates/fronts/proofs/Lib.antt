@@ -14,3 +14,4 @@ pub mod FirstLemmas
 pub mod PushLemmas
 pub mod BuildLemmas
 pub mod PlaceLemmas
+pub mod PositionLemmas

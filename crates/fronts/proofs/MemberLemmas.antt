@@ -5,16 +5,19 @@ use Rattle.std.proofs.lemmas.Bool.{cases_lt, false≢true}
 use Rattle.std.proofs.lemmas.Bool.Decides.{eqb_tells}
 use Rattle.std.proofs.lemmas.Option.{none-some, same_Some, slice_get_within}
 use Rattle.trace_model.specs.Theory.Trace.{Trace}
+use Rattle.std.specs.List.Sorted.{IsStrictlyIncreasing}
 use Rattle.trace_model.specs.Theory.Closure.{Places}
-use Rattle.trace_model.proofs.Theory.Ascending.{place_of}
-use Rattle.trace_model.proofs.Lists.{get-set_same, get-set_other}
+use Rattle.trace_index.specs.Numbers.{number_at}
+use Rattle.trace_model.proofs.Theory.Ascending.{place_of, contains_at}
+use Rattle.trace_model.proofs.Lists.{at_index, get-set_same, get-set_other}
 use Rattle.trace_model.proofs.Theory.Unique.{increasing_ordered}
 use Rattle.std.proofs.Math.ListN.{length-set}
 use Rattle.fronts.specs.declared.requirements.ThreadPrefix.{ThreadPrefix}
 use Rattle.fronts.specs.declared.members.Member.{Member}
 use Rattle.fronts.specs.Slots.{AreSlots, HasSlotPosition, HoldsFirst, HasFirst, HoldsPlaces}
-use Rattle.fronts.specs.Members.{Each, IsMember, EndsBefore, Stops, IsNotPast, IsAhead, IsSameMember, AreMoved, IsWithinCount, Advances, HasMoved, AreAdvanced, steps_left}
-use Rattle.fronts.proofs.SlotLemmas.{position_before, has_before}
+use Rattle.fronts.specs.Members.{Each, ArePassed, IsMember, EndsBefore, Stops, IsNotPast, IsAhead, IsSameMember, AreMoved, IsWithinCount, Advances, HasMoved, AreAdvanced, steps_left}
+use Rattle.fronts.proofs.FrontLemmas.{earlier_lt}
+use Rattle.fronts.proofs.SlotLemmas.{number_is, position_before, has_before, has_number}
 
 pub each_set : {X : Type 0} (P : X → Type 0) (xs : List X) (k : ℕ) (x y : X) → slice_get xs k ≡ Some x → Each P xs → P y → Each P (slice_set xs k y)
 each_set P xs k x y at all new i z h = elim (eqb_tells i k) [
@@ -52,44 +55,81 @@ moved_more slot old xs k x y m at here same = record {
   ];
 }
 
--- A place of the list after entry `e` is not before entry `e + 1`.
-pub after_entry : (s : Trace) (slots : ℕ → Option ℕ) (x y : Member) (q : ℕ) → IsMember s slots x → Advances s slots true x y → Contains x.places q → x.place < q → y.place ≤ q
-after_entry s slots x y q mx a c l =
+-- The number of a place of the thread is below that of a later one.
+number_less : (s : Trace) (slots : ℕ → Option ℕ) (few p q a n m : ℕ) → AreSlots s slots few → slots p ≡ Some a → slots q ≡ Some a → p < q →
+    number_at s p ≡ Some n → number_at s q ≡ Some m → n < m
+number_less s slots few p q a n m k sp sq less np nq =
+    let (t, of_q) = k.of_place q a sq in
+    let of_p = k.apart q p a t sq sp of_q in
+    omega (arith, earlier_lt s t p q of_p less, number_is s p t n of_p np, number_is s q t m of_q nq)
+
+-- If a place of the member is among the first `count` of the thread, then so are the places before it.
+pub passed_before : (s : Trace) (slots : ℕ → Option ℕ) (few : ℕ) (x : Member) (count j : ℕ) → AreSlots s slots few → IsMember s slots x → IsStrictlyIncreasing x.places →
+    j < length x.places → ((q n : ℕ) → slice_get x.places j ≡ Some q → number_at s q ≡ Some n → n < count) →
+    ArePassed s count x.places x.entry (j + 1)
+passed_before s slots few x count j k mx ascends inside here i q n low high at is =
+    let (u, at_u) = at_index x.places j inside in
+    let on_u = mx.thread u (contains_at x.places u j at_u) in
+    let (m, is_m) = has_number s slots few u x.slot k on_u in
+    elim (cases_lt i j) [
+      | inl less ↦
+          let lower = number_less s slots few q u x.slot n m k (mx.thread q (contains_at x.places q i at)) on_u (increasing_ordered x.places ascends i j q u less at at_u) is is_m.number in
+          omega (arith, lower, here u m at_u is_m.number)
+      | inr over ↦
+          let e : i ≡ j = omega (arith, high, over) in
+          here q n (subst (λ z. slice_get x.places z ≡ Some q) e at) is
+    ]
+
+-- A place of the list after entry `e` that is not passed is not before the new place.
+pub after_entry : (s : Trace) (slots : ℕ → Option ℕ) (count : ℕ) (x y : Member) (q : ℕ) → IsMember s slots x → Advances s slots count true x y → Contains x.places q → x.place < q →
+    ((n : ℕ) → number_at s q ≡ Some n → n < count → ⊥) → (n : ℕ) → number_at s q ≡ Some n → y.place ≤ q
+after_entry s slots count x y q mx a c l stays n is =
     let up = increasing_ordered x.places a.ascends in
     let (j, h) = place_of x.places q c in
-    let at_y : slice_get x.places (x.entry + 1) ≡ Some y.place =
-    subst (λ e. slice_get x.places e ≡ Some y.place) (a.next refl)
-    (subst (λ ps. slice_get ps y.entry ≡ Some y.place) a.same.places a.is_member.at) in
-    elim (cases_lt j (x.entry + 1)) [
-      | inl early ↦ elim (cases_lt j x.entry) [
-        | inl before ↦ absurd (omega (arith, l, up j x.entry q x.place before h mx.at))
-        | inr here ↦
-            let e : j ≡ x.entry = omega (arith, early, here) in
-            let same : q ≡ x.place = same_Some q x.place (sym h ∙ subst (λ i. slice_get x.places i ≡ Some x.place) (sym e) mx.at) in
-            absurd (omega (arith, l, same))
+    let at_y : slice_get x.places y.entry ≡ Some y.place = subst (λ ps. slice_get ps y.entry ≡ Some y.place) a.same.places a.is_member.at in
+    elim (cases_lt j y.entry) [
+      | inl early ↦ elim (cases_lt x.entry j) [
+        | inl passed ↦ absurd (stays n is ((a.next refl).1 j q n passed early h is))
+        | inr before ↦ elim (cases_lt j x.entry) [
+          | inl less ↦ absurd (omega (arith, l, up j x.entry q x.place less h mx.at))
+          | inr here ↦
+              let e : j ≡ x.entry = omega (arith, before, here) in
+              let same : q ≡ x.place = same_Some q x.place (sym h ∙ subst (λ i. slice_get x.places i ≡ Some x.place) (sym e) mx.at) in
+              absurd (omega (arith, l, same))
+        ]
       ]
-      | inr late ↦ elim (cases_lt (x.entry + 1) j) [
-        | inl more ↦ omega (arith, up (x.entry + 1) j y.place q more at_y h)
+      | inr late ↦ elim (cases_lt y.entry j) [
+        | inl more ↦ omega (arith, up y.entry j y.place q more at_y h)
         | inr last ↦
-            let e : j ≡ x.entry + 1 = omega (arith, late, last) in
+            let e : j ≡ y.entry = omega (arith, late, last) in
             let same : q ≡ y.place = same_Some q y.place (sym h ∙ subst (λ i. slice_get x.places i ≡ Some y.place) (sym e) at_y) in
             omega (arith, same)
       ]
     ]
 
--- There is no place after the last entry.
-pub after_last : (s : Trace) (slots : ℕ → Option ℕ) (x y : Member) (q : ℕ) → IsMember s slots x → Advances s slots false x y → Contains x.places q → x.place < q → ⊥
-after_last s slots x y q mx a c l =
+-- If the member does not advance, each later place is passed.
+pub after_last : (s : Trace) (slots : ℕ → Option ℕ) (count : ℕ) (x y : Member) (q : ℕ) → IsMember s slots x → Advances s slots count false x y → Contains x.places q → x.place < q →
+    ((n : ℕ) → number_at s q ≡ Some n → n < count → ⊥) → (n : ℕ) → number_at s q ≡ Some n → ⊥
+after_last s slots count x y q mx a c l stays n is =
     let up = increasing_ordered x.places a.ascends in
     let (j, h) = place_of x.places q c in
     let inside = slice_get_within x.places j q h in
-    elim (cases_lt j x.entry) [
-      | inl before ↦ omega (arith, l, up j x.entry q x.place before h mx.at)
-      | inr here ↦
-          let e : j ≡ x.entry = omega (arith, inside, here, (a.last refl).0) in
-          let same : q ≡ x.place = same_Some q x.place (sym h ∙ subst (λ i. slice_get x.places i ≡ Some x.place) (sym e) mx.at) in
-          omega (arith, l, same)
+    elim (cases_lt x.entry j) [
+      | inl passed ↦ stays n is ((a.last refl).0 j q n passed inside h is)
+      | inr before ↦ elim (cases_lt j x.entry) [
+        | inl less ↦ omega (arith, l, up j x.entry q x.place less h mx.at)
+        | inr here ↦
+            let e : j ≡ x.entry = omega (arith, before, here) in
+            let same : q ≡ x.place = same_Some q x.place (sym h ∙ subst (λ i. slice_get x.places i ≡ Some x.place) (sym e) mx.at) in
+            omega (arith, l, same)
+      ]
     ]
+
+-- A set that contains the first places of the thread stops at none of them.
+stays_out : (s : Trace) (slots : ℕ → Option ℕ) (set : Places) (x : Member) (count q : ℕ) → IsMember s slots x → HoldsFirst s slots set x.slot count →
+    Contains x.places q → EndsBefore s set q → (n : ℕ) → number_at s q ≡ Some n → n < count → ⊥
+stays_out s slots set x count q mx holds c stop n is less =
+    false≢true (sym stop.out ∙ holds q n (record { slot = mx.thread q c; number = is }) less)
 
 -- A set that contains the member's place stops later.
 pub stops_later : (s : Trace) (slots : ℕ → Option ℕ) (set : Places) (x : Member) (count q : ℕ) → IsMember s slots x → x.number < count →
@@ -112,12 +152,14 @@ holds_upto s slots count set y q k my c stop l p n x less =
     stop.before p (t, o, uq, omega (arith, lt, l))
 
 pub ahead_moves : (s : Trace) (slots : ℕ → Option ℕ) (count : ℕ) (set : Places) (xs : List Member) (k : ℕ) (x y : Member) (most : ℕ) → AreSlots s slots count →
-    IsAhead s xs set → slice_get xs k ≡ Some x → IsMember s slots x → x.number < most → HoldsFirst s slots set x.slot most → Advances s slots true x y →
+    IsAhead s xs set → slice_get xs k ≡ Some x → IsMember s slots x → x.number < most → HoldsFirst s slots set x.slot most → Advances s slots most true x y →
     IsAhead s (slice_set xs k y) set × HoldsFirst s slots set y.slot y.number
 ahead_moves s slots count set xs k x y most slot a at mx l holds adv =
     let (q, c, stop) = a.stops k x at in
     let later : (z : ℕ) → Contains x.places z → EndsBefore s set z → y.place ≤ z = λ z cz sz.
-    after_entry s slots x y z mx adv cz (stops_later s slots set x most z mx l holds (a.not_past k x at) cz sz) in
+    let (n, is) = has_number s slots count z x.slot slot (mx.thread z cz) in
+    after_entry s slots most x y z mx adv cz (stops_later s slots set x most z mx l holds (a.not_past k x at) cz sz)
+    (stays_out s slots set x most z mx holds cz sz) n is.number in
     let cy : Contains y.places q = subst (λ ps. Contains ps q) (sym adv.same.places) c in (
       record {
         closed = a.closed;
@@ -127,13 +169,15 @@ ahead_moves s slots count set xs k x y most slot a at mx l holds adv =
       holds_upto s slots count set y q slot adv.is_member cy stop (later q c stop),
     )
 
-pub ahead_ends : (s : Trace) (slots : ℕ → Option ℕ) (set : Places) (xs : List Member) (k : ℕ) (x y : Member) (most : ℕ) →
-    IsAhead s xs set → slice_get xs k ≡ Some x → IsMember s slots x → x.number < most → HoldsFirst s slots set x.slot most → Advances s slots false x y → ⊥
-ahead_ends s slots set xs k x y most a at mx l holds adv =
+pub ahead_ends : (s : Trace) (slots : ℕ → Option ℕ) (few : ℕ) (set : Places) (xs : List Member) (k : ℕ) (x y : Member) (most : ℕ) → AreSlots s slots few →
+    IsAhead s xs set → slice_get xs k ≡ Some x → IsMember s slots x → x.number < most → HoldsFirst s slots set x.slot most → Advances s slots most false x y → ⊥
+ahead_ends s slots few set xs k x y most known a at mx l holds adv =
     let (q, c, stop) = a.stops k x at in
-    after_last s slots x y q mx adv c (stops_later s slots set x most q mx l holds (a.not_past k x at) c stop)
+    let (n, is) = has_number s slots few q x.slot known (mx.thread q c) in
+    after_last s slots most x y q mx adv c (stops_later s slots set x most q mx l holds (a.not_past k x at) c stop)
+    (stays_out s slots set x most q mx holds c stop) n is.number
 
-pub left_less : (xs : List Member) (k : ℕ) (x y : Member) → slice_get xs k ≡ Some x → y.places ≡ x.places → y.entry ≡ x.entry + 1 → x.entry < length x.places →
+pub left_less : (xs : List Member) (k : ℕ) (x y : Member) → slice_get xs k ≡ Some x → y.places ≡ x.places → x.entry < y.entry → x.entry < length x.places →
     steps_left (slice_set xs k y) < steps_left xs
 left_less [] k x y h p e l = absurd (none-some x h)
 left_less (a ∷ more) zero x y h p e l =
@@ -144,32 +188,32 @@ left_less (a ∷ more) zero x y h p e l =
 left_less (a ∷ more) (suc k) x y h p e l = omega (arith, left_less more k x y h p e l)
 
 -- The same for a member that advanced in the list.
-members_on : (s : Trace) (slots : ℕ → Option ℕ) (xs ys : List Member) (k : ℕ) (b : Bool) → HasMoved (Advances s slots b) xs k ys →
+members_on : (s : Trace) (slots : ℕ → Option ℕ) (xs ys : List Member) (k : ℕ) (most : ℕ) (b : Bool) → HasMoved (Advances s slots most b) xs k ys →
     Each (IsMember s slots) xs → Each (IsMember s slots) ys
-members_on s slots xs ys k b m all =
+members_on s slots xs ys k most b m all =
     subst (Each (IsMember s slots)) (sym m.new_at) (each_set (IsMember s slots) xs k m.x m.y m.at all m.advances.is_member)
 
-moved_on : (s : Trace) (slots : ℕ → Option ℕ) (slot : ℕ) (old xs ys : List Member) (k : ℕ) (b : Bool) (m : HasMoved (Advances s slots b) xs k ys) →
+moved_on : (s : Trace) (slots : ℕ → Option ℕ) (slot : ℕ) (old xs ys : List Member) (k : ℕ) (most : ℕ) (b : Bool) (m : HasMoved (Advances s slots most b) xs k ys) →
     AreMoved slot old xs → m.x.slot ≡ slot → AreMoved slot old ys
-moved_on s slots slot old xs ys k b m all here =
+moved_on s slots slot old xs ys k most b m all here =
     subst (AreMoved slot old) (sym m.new_at) (moved_more slot old xs k m.x m.y all m.at here m.advances.same)
 
-within_on : (s : Trace) (slots : ℕ → Option ℕ) (slot count n : ℕ) (xs ys : List Member) (k : ℕ) (b : Bool) (m : HasMoved (Advances s slots b) xs k ys) →
+within_on : (s : Trace) (slots : ℕ → Option ℕ) (slot count n : ℕ) (xs ys : List Member) (k : ℕ) (most : ℕ) (b : Bool) (m : HasMoved (Advances s slots most b) xs k ys) →
     m.y.number ≡ n → Each (IsWithinCount slot count) xs → Each (IsWithinCount slot (max count n)) ys
-within_on s slots slot count n xs ys k b m is all =
+within_on s slots slot count n xs ys k most b m is all =
     subst (Each (IsWithinCount slot (max count n))) (sym m.new_at)
     (each_set (IsWithinCount slot (max count n)) xs k m.x m.y m.at (λ i z h e. omega (arith, all i z h e)) (λ e. omega (arith, is)))
 
-has_on : (s : Trace) (slots : ℕ → Option ℕ) (few slot count n : ℕ) (xs ys : List Member) (k : ℕ) (b : Bool) (m : HasMoved (Advances s slots b) xs k ys) →
+has_on : (s : Trace) (slots : ℕ → Option ℕ) (few slot count n : ℕ) (xs ys : List Member) (k : ℕ) (most : ℕ) (b : Bool) (m : HasMoved (Advances s slots most b) xs k ys) →
     AreSlots s slots few → m.x.slot ≡ slot → m.y.number ≡ n → HasFirst s slots slot count → HasFirst s slots slot (max count n)
-has_on s slots few slot count n xs ys k b m known here is has i l = elim (cases_lt i count) [
+has_on s slots few slot count n xs ys k most b m known here is has i l = elim (cases_lt i count) [
   | inl less ↦ has i less
   | inr more ↦
       subst (λ a. (p : ℕ) × HasSlotPosition s slots p a i) (m.advances.same.slot ∙ here)
       (has_before s slots few m.y.place m.y.slot m.y.number known m.advances.is_member.positions i (omega (arith, l, more, is)))
 ]
 
-ahead_on : (s : Trace) (slots : ℕ → Option ℕ) (few slot count n : ℕ) (set : Places) (xs ys : List Member) (k : ℕ) (m : HasMoved (Advances s slots true) xs k ys) →
+ahead_on : (s : Trace) (slots : ℕ → Option ℕ) (few slot count n : ℕ) (set : Places) (xs ys : List Member) (k : ℕ) (m : HasMoved (Advances s slots count true) xs k ys) →
     AreSlots s slots few → Each (IsMember s slots) xs → m.x.slot ≡ slot → m.x.number < count → m.y.number ≡ n →
     IsAhead s xs set → HoldsFirst s slots set slot count → IsAhead s ys set × HoldsFirst s slots set slot (max count n)
 ahead_on s slots few slot count n set xs ys k m known all here less is ahead holds =
@@ -192,9 +236,9 @@ abbrev pub IsFoundAt : ℕ → ℕ → List Member → ℕ → Type 0
 IsFoundAt slot count xs k = (z : Member) × (slice_get xs k ≡ Some z) × (z.slot ≡ slot) × (z.number < count)
 
 -- The found member is the one that advanced.
-is_found : (s : Trace) (slots : ℕ → Option ℕ) (slot count : ℕ) (xs ys : List Member) (k : ℕ) (b : Bool) (m : HasMoved (Advances s slots b) xs k ys) →
+is_found : (s : Trace) (slots : ℕ → Option ℕ) (slot count : ℕ) (xs ys : List Member) (k : ℕ) (most : ℕ) (b : Bool) (m : HasMoved (Advances s slots most b) xs k ys) →
     IsFoundAt slot count xs k → IsFound slot count m.x
-is_found s slots slot count xs ys k b m (z, at, here, less) =
+is_found s slots slot count xs ys k most b m (z, at, here, less) =
     subst (IsFound slot count) (same_Some z m.x (sym at ∙ m.at)) (record { slot = here; less = less })
 
 -- The loop invariant.
@@ -207,16 +251,16 @@ pub record AreSettling (s : Trace) (slots : ℕ → Option ℕ) (prefix : Thread
   pub ahead : (set : Places) → IsAhead s old set → HoldsFirst s slots set prefix.slot prefix.count →
       IsAhead s new set × HoldsFirst s slots set prefix.slot count
 
-pub settling_on : (s : Trace) (slots : ℕ → Option ℕ) (few : ℕ) (prefix : ThreadPrefix) (count n : ℕ) (old xs ys : List Member) (k : ℕ) (m : HasMoved (Advances s slots true) xs k ys) →
+pub settling_on : (s : Trace) (slots : ℕ → Option ℕ) (few : ℕ) (prefix : ThreadPrefix) (count n : ℕ) (old xs ys : List Member) (k : ℕ) (m : HasMoved (Advances s slots count true) xs k ys) →
     AreSlots s slots few → IsFoundAt prefix.slot count xs k → m.y.number ≡ n → AreSettling s slots prefix old xs count → AreSettling s slots prefix old ys (max count n)
 settling_on s slots few prefix count n old xs ys k m known at is all =
-    let found = is_found s slots prefix.slot count xs ys k true m at in
+    let found = is_found s slots prefix.slot count xs ys k count true m at in
     record {
-      members = members_on s slots xs ys k true m all.members;
-      moved = moved_on s slots prefix.slot old xs ys k true m all.moved found.slot;
-      within = within_on s slots prefix.slot count n xs ys k true m is all.within;
+      members = members_on s slots xs ys k count true m all.members;
+      moved = moved_on s slots prefix.slot old xs ys k count true m all.moved found.slot;
+      within = within_on s slots prefix.slot count n xs ys k count true m is all.within;
       more = omega (arith, all.more);
-      has = has_on s slots few prefix.slot count n xs ys k true m known found.slot is all.has;
+      has = has_on s slots few prefix.slot count n xs ys k count true m known found.slot is all.has;
       ahead = λ set a h.
           let (b, g) = all.ahead set a h in
           ahead_on s slots few prefix.slot count n set xs ys k m known all.members found.slot found.less is b g;
@@ -228,24 +272,24 @@ pub record HaveEnded (s : Trace) (slots : ℕ → Option ℕ) (prefix : ThreadPr
   pub moved : AreMoved prefix.slot old new
   pub ahead : (set : Places) → IsAhead s old set → HoldsPlaces s slots prefix set → ⊥
 
-pub settling_ends : (s : Trace) (slots : ℕ → Option ℕ) (prefix : ThreadPrefix) (count : ℕ) (old xs ys : List Member) (k : ℕ) → HasMoved (Advances s slots false) xs k ys →
+pub settling_ends : (s : Trace) (slots : ℕ → Option ℕ) (few : ℕ) (prefix : ThreadPrefix) (count : ℕ) (old xs ys : List Member) (k : ℕ) → HasMoved (Advances s slots count false) xs k ys → AreSlots s slots few →
     IsFoundAt prefix.slot count xs k → AreSettling s slots prefix old xs count → HaveEnded s slots prefix old ys
-settling_ends s slots prefix count old xs ys k m at all =
-    let found = is_found s slots prefix.slot count xs ys k false m at in
+settling_ends s slots few prefix count old xs ys k m known at all =
+    let found = is_found s slots prefix.slot count xs ys k count false m at in
     record {
-      members = members_on s slots xs ys k false m all.members;
-      moved = moved_on s slots prefix.slot old xs ys k false m all.moved found.slot;
+      members = members_on s slots xs ys k count false m all.members;
+      moved = moved_on s slots prefix.slot old xs ys k count false m all.moved found.slot;
       ahead = λ set a h.
           let (b, g) = all.ahead set a h in
-          ahead_ends s slots set xs k m.x m.y count b m.at (all.members k m.x m.at) found.less
+          ahead_ends s slots few set xs k m.x m.y count known b m.at (all.members k m.x m.at) found.less
           (subst (λ z. HoldsFirst s slots set z count) (sym found.slot) g) m.advances;
     }
 
-pub settling_less : (s : Trace) (slots : ℕ → Option ℕ) (xs ys : List Member) (k : ℕ) (m : HasMoved (Advances s slots true) xs k ys) →
+pub settling_less : (s : Trace) (slots : ℕ → Option ℕ) (count : ℕ) (xs ys : List Member) (k : ℕ) (m : HasMoved (Advances s slots count true) xs k ys) →
     Each (IsMember s slots) xs → steps_left ys < steps_left xs
-settling_less s slots xs ys k m all =
+settling_less s slots count xs ys k m all =
     subst (λ zs. steps_left zs < steps_left xs) (sym m.new_at)
-    (left_less xs k m.x m.y m.at m.advances.same.places (m.advances.next refl) (slice_get_within m.x.places m.x.entry m.x.place (all k m.x m.at).at))
+    (left_less xs k m.x m.y m.at m.advances.same.places (m.advances.next refl).0 (slice_get_within m.x.places m.x.entry m.x.place (all k m.x m.at).at))
 
 pub advanced : (s : Trace) (slots : ℕ → Option ℕ) (prefix : ThreadPrefix) (old xs : List Member) (count : ℕ) → AreSettling s slots prefix old xs count →
     Each (λ m. m.slot ≡ prefix.slot → count ≤ m.number) xs → AreAdvanced s slots prefix xs (record { slot = prefix.slot; count = count })

@@ -2,6 +2,7 @@ pub mod Threads
 pub mod State
 pub mod EpochArrays
 pub mod Slots
+pub mod Runs
 pub mod Members
 pub mod Overlays
 pub mod Requirements

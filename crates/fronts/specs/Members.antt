@@ -1,9 +1,10 @@
 -- The members of a cycle, each at a place of its dependency.
-use Rattle.std.specs.Prelude.{◌≡◌, ◌≢◌, ℕ, ◌≤◌, ◌-◌, ◌+◌, Bool, false, IsTrue, List, [], ◌∷◌, true, length, slice_get, slice_set, map, Option, Some, MatchOption}
+use Rattle.std.specs.Prelude.{◌≡◌, ◌≢◌, ℕ, ◌<◌, ◌≤◌, ◌-◌, ◌+◌, Bool, false, IsTrue, List, [], ◌∷◌, true, length, slice_get, slice_set, map, Option, Some, MatchOption}
 use Rattle.std.specs.List.{Contains}
 use Rattle.std.specs.List.Sorted.{IsStrictlyIncreasing}
 use Rattle.trace_model.specs.Theory.Trace.{Trace, EarlierInThread}
 use Rattle.trace_model.specs.Theory.Closure.{Places, IsClosed}
+use Rattle.trace_index.specs.Numbers.{number_at}
 use Rattle.fronts.specs.declared.requirements.ThreadPrefix.{ThreadPrefix}
 use Rattle.fronts.specs.declared.members.Member.{Member}
 use Rattle.fronts.specs.Slots.{HasSlotPosition, HasPlaces}
@@ -71,13 +72,21 @@ abbrev pub steps_left : List Member → ℕ
 steps_left [] = 0
 steps_left (m ∷ ms) = (length m.places - m.entry) + steps_left ms
 
--- The member advanced to its next place, or is at its last one.
-pub record Advances (s : Trace) (slots : ℕ → Option ℕ) (moves : Bool)
+-- The places after entry `from` and before entry `to` are among the first `count` of their thread.
+abbrev pub ArePassed : Trace → ℕ → List ℕ → ℕ → ℕ → Type 0
+ArePassed s count places from to = (i q n : ℕ) → from < i → i < to → slice_get places i ≡ Some q →
+    number_at s q ≡ Some n → n < count
+
+-- The member advanced to a later place, past places that are among the first `count` of their
+-- thread; or all its later places are among these.
+pub record Advances (s : Trace) (slots : ℕ → Option ℕ) (count : ℕ) (moves : Bool)
     (old new : Member) : Type 0 where
   pub same : IsSameMember old new
   pub is_member : IsMember s slots new
-  pub next : IsTrue moves → new.entry ≡ old.entry + 1
-  pub last : moves ≡ false → (length old.places ≤ old.entry + 1) × (new ≡ old)
+  pub next : IsTrue moves →
+      (old.entry < new.entry) × ArePassed s count old.places old.entry new.entry
+  pub last : moves ≡ false →
+      ArePassed s count old.places old.entry (length old.places) × (new ≡ old)
   pub ascends : IsStrictlyIncreasing old.places
 
 -- The members of the slot are right after the new prefix, which is not shorter.
@@ -98,7 +107,7 @@ pub record HasMoved (Moves : Member → Member → Type 0) (old : List Member) (
   pub new_at : new ≡ slice_set old k y
   pub advances : Moves x y
 
--- Member `k` advanced to its next place, which has this number; or it is at its last place.
+-- Member `k` advanced to a place that has this number, or it did not advance.
 abbrev pub MovesTo : (Bool → Member → Member → Type 0) → List Member → ℕ → List Member →
     Option ℕ → Type 0
 MovesTo Moves old k new number = MatchOption number (HasMoved (Moves false) old k new)

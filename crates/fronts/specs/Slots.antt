@@ -18,7 +18,7 @@ place_slot positions p = option_map (λ to. to.slot) (slice_get positions p)
 
 -- The slot of each place's thread.
 abbrev pub slots_of : SlotTable → ℕ → Option ℕ
-slots_of slot_table = place_slot (arc_value slot_table.positions).items
+slots_of slot_table = place_slot (arc_value slot_table.positions)
 
 -- The slots number the threads: each place has one, below the count, and two places have the same
 -- slot if and only if they are of the same thread.
@@ -58,7 +58,7 @@ pub record AreSlotPlaces (s : Trace) (slots : ℕ → Option ℕ)
 -- The table lists each place of the trace with its slot and its number.
 abbrev pub AreTablePlaces : Trace → SlotTable → Type 0
 AreTablePlaces s threads =
-    AreSlotPlaces s (slots_of threads) (arc_value threads.positions).items
+    AreSlotPlaces s (slots_of threads) (arc_value threads.positions)
 
 -- The set of listed places that the fronts include.
 abbrev pub among : List ThreadPrefix → (ℕ → ℕ) → Places

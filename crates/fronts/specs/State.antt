@@ -1,5 +1,5 @@
 -- The set of places that fronts represent.
-use Rattle.std.specs.Prelude.{◌≡◌, ℕ, ◌-◌, ◌<◌, ◌≤◌, ◌&&◌, nat_lt, List, ◌++◌, length, slice_get, unwrap_or}
+use Rattle.std.specs.Prelude.{◌≡◌, ℕ, ◌-◌, ◌<◌, ◌≤◌, ◌&&◌, nat_lt, IsTrue, IsFalse, List, ◌++◌, length, slice_get, unwrap_or}
 use Rattle.std.specs.Arc.{arc_value}
 use Rattle.std.specs.List.{range_with_len}
 use Rattle.fronts.specs.declared.fronts.Fronts.{Fronts}
@@ -13,7 +13,7 @@ included_count f a = unwrap_or (slice_get f.counts.items a) 0
 
 -- The set of included places.
 abbrev pub included_set : Fronts → Places
-included_set f p = nat_lt p f.end && among (arc_value f.positions).items (included_count f) p
+included_set f p = nat_lt p f.end && among (arc_value f.positions) (included_count f) p
 
 -- The included places, ascending.
 abbrev pub included_places : Fronts → List ℕ
@@ -30,3 +30,11 @@ pub record IsNextRange (f : Fronts) (at start end : ℕ) : Type 0 where
 -- The number of included places.
 abbrev pub size_in : Trace → Fronts → ℕ
 size_in s f = length (ascending_places (included_set f) (length s))
+
+-- From `p` on, the places up to `front` are included, and those from there up to `end` are not.
+pub record IsSetRun (f : Fronts) (p front end : ℕ) : Type 0 where
+  pub later : p < end
+  pub order : (p ≤ front) × (front ≤ end)
+  pub within : end ≤ f.end
+  pub in_set : (q : ℕ) → p ≤ q → q < front → IsTrue (included_set f q)
+  pub outside : (q : ℕ) → front ≤ q → q < end → IsFalse (included_set f q)

@@ -4,11 +4,11 @@ ghost use Rattle.std.specs.Prelude.{◌≡◌, ℕ, ◌+◌, ◌^◌, ◌<◌, �
 ghost use Rattle.std.specs.List.{Contains};
 ghost use Rattle.trace_model.specs.Theory.Closure.{ascending_places};
 ghost use Rattle.fronts.specs.Overlays.{front_of};
-ghost use Rattle.fronts.specs.State.{IsNextRange, included_count, included_set, included_places};
+ghost use Rattle.fronts.specs.State.{IsNextRange, IsSetRun, included_count, included_set, included_places};
 
 use crate::members::greater;
 use crate::overlay::Overlay;
-use crate::requirements::ThreadPrefix;
+use crate::positions::Positions;
 use segments::Steps;
 use std::alloc::Global;
 use std::marker::Model;
@@ -76,7 +76,7 @@ impl Front {
 /// bytes for each thread; the table of the places' threads is shared.
 #[derive(Drop)]
 pub struct Fronts {
-    pub(crate) positions: Arc<Vec<ThreadPrefix>, Global>,
+    pub(crate) positions: Arc<Positions, Global>,
     pub(crate) counts: Vec<Front>,
     pub(crate) end: u32,
 }
@@ -144,24 +144,59 @@ impl Fronts {
             included_set self.now p ≡ not is_in }
         ensures first { result < self.now.end → included_set self.now result ≡ is_in }
     {
-        let end = self.end;
         let mut place = at;
-        while place < end && self.counts_in(Place::new(place)) != is_in {
-            place += 1;
+        while place < self.end {
+            let run = self.run_from(place);
+            let (first, past) = if is_in {
+                (place, run.front)
+            } else {
+                (run.front, run.end)
+            };
+            if first < past {
+                return first;
+            }
+            place = run.end;
         }
         place
+    }
+
+    /// Returns the run of places from `place` on, which must be before the end of the set.
+    #[inline(always)]
+    fn run_from(&self, place: u32) -> SetRun
+        requires { place < self.now.end }
+        ensures { IsSetRun self.now place result.front result.end }
+    {
+        let Some(run) = self.positions.run_at(Place::new(place)) else {
+            return SetRun {
+                front: place,
+                end: self.end,
+            };
+        };
+        let end = run.end.min(self.end);
+        let included = self.count(run.prefix.slot).saturating_sub(run.prefix.count);
+        SetRun {
+            front: place + included.min(end - place),
+            end,
+        }
     }
 
     /// Returns whether `place` is among the counted places of its thread.
     fn counts_in(&self, place: Place) -> bool
         ensures { result
-            ≡ among (arc_value self.now.positions).items (included_count self.now) place }
+            ≡ among (arc_value self.now.positions) (included_count self.now) place }
     {
-        match self.positions.get(place.get() as usize) {
+        match self.positions.get(place) {
             Some(prefix) => prefix.count < self.count(prefix.slot),
             None => false,
         }
     }
+}
+
+/// Places of a run: those before `front` are in the set, those from there up to `end` are not.
+#[derive(Clone, Copy)]
+struct SetRun {
+    front: u32,
+    end: u32,
 }
 
 /// Returns the greatest of the places, or 0.
@@ -181,7 +216,7 @@ fn greatest(places: &[Place]) -> u32
 /// `NoMemory` if an allocation fails.
 pub fn gathered(
     alloc: Global,
-    positions: Arc<Vec<ThreadPrefix>, Global>,
+    positions: Arc<Positions, Global>,
     under: &Overlay,
     overlay: &Overlay,
     count: u32,

@@ -1,10 +1,11 @@
 //! Pointers into the places of dependencies, one for each member of a cycle.
 
-ghost use Rattle.std.specs.Prelude.{◌≡◌, ℕ, ◌<◌, ◌≤◌, max, length, slice_get, Some, None, IfSome, MatchOption};
+ghost use Rattle.std.specs.Prelude.{◌≡◌, ℕ, ◌<◌, ◌≤◌, max, length, slice_get, Some, None, IfSome, IsTrue, MatchOption};
 ghost use Rattle.trace_model.specs.Theory.Closure.{Places};
+ghost use Rattle.trace_index.specs.Numbers.{number_at};
 ghost use Rattle.fronts.specs.Slots.{slots_of, AreThreadSlots, HoldsFirst, HoldsPlaces, HasPlaces};
 ghost use Rattle.fronts.specs.declared.members.Member.{Member};
-ghost use Rattle.fronts.specs.Members.{Each, IsMember, IsAhead, AreMoved, IsWithinCount, Advances, MovesTo, AreAdvanced};
+ghost use Rattle.fronts.specs.Members.{Each, IsMember, IsAhead, AreMoved, IsWithinCount, ArePassed, Advances, MovesTo, AreAdvanced};
 
 use crate::requirements::ThreadPrefix;
 use crate::slot_table::SlotTable;
@@ -43,15 +44,57 @@ fn behind(members: &[Member<'_>], prefix: ThreadPrefix) -> Option<usize>
 }
 
 impl<'a> Member<'a> {
-    /// Advances to the next place of the dependency. Returns `false` if there is none.
-    fn advance(&mut self, index: &TraceIndex, threads: &SlotTable) -> bool
+    /// Returns whether the place at index `entry` is among the first `count` of its thread.
+    fn is_passed(&self, index: &TraceIndex, entry: usize, count: u32) -> bool
+        requires { entry < length self.now.places }
+        ensures { IsTrue result → (q n : ℕ) → slice_get self.now.places entry ≡ Some q →
+            number_at index.now.events q ≡ Some n → n < count }
+    {
+        match index.number(self.places.get(entry)) {
+            Some(number) => number < count,
+            None => false,
+        }
+    }
+
+    /// Returns the index of the first place after the current one that is not among the first
+    /// `count` of the thread, or the number of places if there is none. Takes longer and longer
+    /// steps, and then a binary search.
+    fn first_past(&self, index: &TraceIndex, threads: &SlotTable, count: u32) -> usize
+        requires slots { AreThreadSlots index.now.events threads.now }
+        requires member { IsMember index.now.events (slots_of threads.now) self.now }
+        ensures later { self.now.entry < result }
+        ensures passed { ArePassed index.now.events count self.now.places self.now.entry result }
+        ensures within { result ≤ length self.now.places }
+    {
+        let _ = threads; // for the proof
+        let places = self.places.len();
+        let mut low = self.entry;
+        let mut step = 1;
+        while step < places - low && self.is_passed(index, low + step, count) {
+            low += step;
+            step = low - self.entry + 1;
+        }
+        let mut high = low + step.min(places - low);
+        while high - low > 1 {
+            let middle = low + (high - low) / 2;
+            if self.is_passed(index, middle, count) {
+                low = middle;
+            } else {
+                high = middle;
+            }
+        }
+        high
+    }
+
+    /// Advances to the first later place of the dependency that is not among the first `count` of
+    /// the thread. Returns `false` if there is none.
+    fn advance(&mut self, index: &TraceIndex, threads: &SlotTable, count: u32) -> bool
         requires slots { AreThreadSlots index.now.events threads.now }
         requires member { IsMember index.now.events (slots_of threads.now) self.old }
-        ensures { Advances index.now.events (slots_of threads.now) result self.old self.new }
+        ensures { Advances index.now.events (slots_of threads.now) count result self.old self.new }
     {
-        let count = self.places.len();
-        let entry = self.entry + 1;
-        if entry < count {
+        let entry = self.first_past(index, threads, count);
+        if entry < self.places.len() {
             let place = self.places.get(entry);
             self.entry = entry;
             self.place = place;
@@ -63,22 +106,23 @@ impl<'a> Member<'a> {
     }
 }
 
-/// Advances member `k` to its next place and returns that place's number in its thread, or `None`
-/// if there is no next place.
+/// Advances member `k` past the first `count` places of its thread, and returns the number of its
+/// new place in the thread, or `None` if it has no further place.
 fn move_one(
     index: &TraceIndex,
     threads: &SlotTable,
     members: &mut [Member<'_>],
     k: usize,
+    count: u32,
 ) -> Option<u32>
     requires slots { AreThreadSlots index.now.events threads.now }
     requires members { Each (IsMember index.now.events (slots_of threads.now)) members.old }
     requires within { k < length members.old }
-    ensures { MovesTo (Advances index.now.events (slots_of threads.now))
+    ensures { MovesTo (Advances index.now.events (slots_of threads.now) count)
         members.old k members.new result }
 {
     let member = &mut members[k];
-    if member.advance(index, threads) {
+    if member.advance(index, threads, count) {
         Some(member.number)
     } else {
         None
@@ -122,7 +166,7 @@ pub(crate) fn advance_members(
             count,
         },
     ) {
-        let Some(number) = move_one(index, threads, members, k) else {
+        let Some(number) = move_one(index, threads, members, k, count) else {
             return None;
         };
         count = greater(count, number);

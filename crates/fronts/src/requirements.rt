@@ -10,6 +10,7 @@ ghost use Rattle.fronts.specs.SlotTable.{AreSlotNumbers, next_slot};
 ghost use Rattle.fronts.specs.Firsts.{first_of_thread, first_of_lock};
 
 use crate::item_cache::ItemCache;
+use crate::positions::Positions;
 use crate::slot_table::{LockSlots, SlotTable, count_with, next_count, prefix_at, slot_at};
 use segments::MaybeIndex;
 use std::alloc::Global;
@@ -156,6 +157,7 @@ fn slot_tables(alloc: Global, index: &TraceIndex) -> Result<SlotTables, NoMemory
         thread_count = count_with(slot, thread_count);
         lock_count = next_count(lock, lock_count);
     }
+    let positions = Positions::of(alloc, positions)?;
     Ok(SlotTables {
         threads: SlotTable {
             positions: Arc::new(alloc, positions)?,
@@ -191,7 +193,7 @@ fn position_of(_index: &TraceIndex, threads: &SlotTable, place: Place) -> Thread
     ensures { HasSlotPosition _index.now.events
         (slots_of threads.now) place result.slot result.count }
 {
-    prefix_at(&threads.positions, place).unwrap()
+    threads.positions.get(place).unwrap()
 }
 
 /// Returns the prefix of its thread that ends with `place`.

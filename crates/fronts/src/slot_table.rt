@@ -5,6 +5,7 @@ ghost use Rattle.std.specs.Arc.{arc_value};
 ghost use Rattle.fronts.specs.Slots.{slot_in, slots_of};
 ghost use Rattle.fronts.specs.SlotTable.{slot_count_after};
 
+use crate::positions::Positions;
 use crate::requirements::ThreadPrefix;
 use segments::MaybeIndex;
 use std::alloc::Global;
@@ -15,7 +16,7 @@ use trace_model::Place;
 #[derive(Drop)]
 pub struct SlotTable {
     /// For each place the prefix of its thread that is before it. Shared with the fronts.
-    pub positions: Arc<Vec<ThreadPrefix>, Global>,
+    pub positions: Arc<Positions, Global>,
     /// The number of threads.
     pub count: u32,
 }
@@ -26,7 +27,7 @@ impl SlotTable {
     pub(crate) fn get(&self, place: Place) -> Option<u32>
         ensures { result ≡ slots_of self.now place }
     {
-        match prefix_at(&self.positions, place) {
+        match self.positions.get(place) {
             Some(prefix) => Some(prefix.slot),
             None => None,
         }

@@ -264,9 +264,9 @@ in_front_among s slots count positions front known are p = go (slice_get positio
 -- Fronts that agree with a closure below the number of slots, up to the greatest of the places,
 -- contain it.
 pub set_of_fronts : (s : Trace) (places : List ℕ) (slots : ℕ → Option ℕ) (count : ℕ) (front : ℕ → ℕ) (fronts : Fronts) → IsWellFormed s → AreSlots s slots count →
-    AreSlotPlaces s slots (arc_value fronts.positions).items → ((a : ℕ) → a < count → front a ≡ included_count fronts a) →
+    AreSlotPlaces s slots (arc_value fronts.positions) → ((a : ℕ) → a < count → front a ≡ included_count fronts a) →
     ((p : ℕ) → Contains places p → p ≤ fronts.end) → IsClosure s places (in_front s slots front) → in_front s slots front ≡ included_set fronts
 set_of_fronts s places slots count front fronts w known are same most closure = λ i p.
     (closure_cut s places (in_front s slots front) fronts.end w closure most p
     ∙ ap (λ b. nat_lt p fronts.end && b) (in_front_same s slots count front (included_count fronts) known same p
-    ∙ in_front_among s slots count (arc_value fronts.positions).items (included_count fronts) known are p)) i
+    ∙ in_front_among s slots count (arc_value fronts.positions) (included_count fronts) known are p)) i

@@ -120,7 +120,7 @@ pub record AreGathered (s : Trace) (threads : SlotTable) (front : ℕ → ℕ) (
   pub size : HasFronts s (slots_of threads) front → sum_to front threads.count ≡ size_in s fronts
 
 pub all_gathered : (s : Trace) (places : List ℕ) (threads : SlotTable) (front : ℕ → ℕ) (fronts : Fronts) → IsWellFormed s → AreThreadSlots s threads →
-    AreSlotPlaces s (slots_of threads) (arc_value fronts.positions).items → ((a : ℕ) → a < threads.count → included_count fronts a ≡ front a) → ((p : ℕ) → Contains places p → p ≤ fronts.end) →
+    AreSlotPlaces s (slots_of threads) (arc_value fronts.positions) → ((a : ℕ) → a < threads.count → included_count fronts a ≡ front a) → ((p : ℕ) → Contains places p → p ≤ fronts.end) →
     IsClosure s places (in_front s (slots_of threads) front) → AreGathered s threads front fronts
 all_gathered s places threads front fronts w known are same most closure =
     let set = set_of_fronts s places (slots_of threads) threads.count front fronts w known are (λ a l. sym (same a l)) most closure in

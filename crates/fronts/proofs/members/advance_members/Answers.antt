@@ -15,13 +15,13 @@ loop-k-init c = record {
 
 pub returns-in_default-move_one : goal.returns-in_default-move_one
 returns-in_default-move_one c =
-    let ended = settling_ends c.args.index.now.events (slots_of c.args.threads.now) c.args.prefix c.loop-k.count c.args.members.now c.loop-k.members c.move_one.new.members c.in-Some.k
-    c.in_default-move_one.ensures c.in-Some.ensures.some c.loop-k.invariant in
+    let ended = settling_ends c.args.index.now.events (slots_of c.args.threads.now) c.args.threads.now.count c.args.prefix c.loop-k.count c.args.members.now c.loop-k.members c.move_one.new.members c.in-Some.k
+    c.in_default-move_one.ensures c.requires.slots c.in-Some.ensures.some c.loop-k.invariant in
     record { members = ended.members; moved = ended.moved; advanced = tt; ahead = ended.ahead }
 
 pub loop-k-smaller : goal.loop-k-smaller
 loop-k-smaller c =
-    settling_less c.args.index.now.events (slots_of c.args.threads.now) c.loop-k.members c.move_one.new.members c.in-Some.k c.in-Some-move_one.ensures.0 c.loop-k.invariant.members
+    settling_less c.args.index.now.events (slots_of c.args.threads.now) c.loop-k.count c.loop-k.members c.move_one.new.members c.in-Some.k c.in-Some-move_one.ensures.0 c.loop-k.invariant.members
 
 pub loop-k-preserved : goal.loop-k-preserved
 loop-k-preserved c =

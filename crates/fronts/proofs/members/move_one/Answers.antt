@@ -20,7 +20,7 @@ returns-then-advance c =
         y = y;
         at = slice_get-get_or xs c.args.k c.index-members-k.result c.requires.within;
         new_at = refl;
-        advances = subst (λ b. Advances c.args.index.now.events (slots_of c.args.threads.now) b x y) c.if-advance.true c.advance.ensures;
+        advances = subst (λ b. Advances c.args.index.now.events (slots_of c.args.threads.now) c.args.count b x y) c.if-advance.true c.advance.ensures;
       },
       refl,
     )
@@ -35,5 +35,5 @@ returns-else-advance c =
       y = y;
       at = slice_get-get_or xs c.args.k c.index-members-k.result c.requires.within;
       new_at = refl;
-      advances = subst (λ b. Advances c.args.index.now.events (slots_of c.args.threads.now) b x y) c.if-advance.false c.advance.ensures;
+      advances = subst (λ b. Advances c.args.index.now.events (slots_of c.args.threads.now) c.args.count b x y) c.if-advance.false c.advance.ensures;
     }

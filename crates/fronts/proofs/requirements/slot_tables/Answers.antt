@@ -1,5 +1,4 @@
-use Rattle.std.proofs.Common.{◌≡◌, ◌≤◌, Vec, length, Some, refl, ap, sym, subst, ◌∙◌, arith}
-use Rattle.std.specs.Global.{Global}
+use Rattle.std.proofs.Common.{◌≡◌, ◌≤◌, length, Some, refl, ap, sym, subst, ◌∙◌, arith}
 use Rattle.std.specs.Option.{option_map}
 use Rattle.trace_index.specs.Numbers.{number_at}
 use Rattle.fronts.specs.declared.requirements.ThreadPrefix.{ThreadPrefix}
@@ -41,7 +40,7 @@ returns-clause-threads c =
     let s = c.args.index.now.events in
     let count = c.loop-place.thread_count in
     let at_end : c.loop-place.place ≡ length s = omega (arith, c.loop-place-test.false, c.len-place-end.ensures.length, c.loop-place.auto.place-end) in
-    subst (λ (z : Vec ThreadPrefix Global). AreSlots s (place_slot z.items) count) (sym c.in_ok-new.ensures.ok)
+    subst (λ z. AreSlots s (place_slot z) count) (sym (c.in_ok-new.ensures.ok ∙ c.in_ok-positions-2.ensures))
     (thread_slots s (first_of_thread s) (place_slot c.loop-place.positions.items) count (λ p. refl)
     (subst (AreSlotNumbers (first_of_thread s) (place_slot c.loop-place.positions.items) count) at_end c.loop-place.invariant.threads))
 
@@ -50,7 +49,7 @@ returns-clause-positions c =
     let s = c.args.index.now.events in
     let at_end : c.loop-place.place ≡ length s = omega (arith, c.loop-place-test.false, c.len-place-end.ensures.length, c.loop-place.auto.place-end) in
     let is = c.loop-place.invariant in
-    subst (λ (z : Vec ThreadPrefix Global). AreSlotPlaces s (place_slot z.items) z.items) (sym c.in_ok-new.ensures.ok) (record {
+    subst (λ z. AreSlotPlaces s (place_slot z) z) (sym (c.in_ok-new.ensures.ok ∙ c.in_ok-positions-2.ensures)) (record {
       each = λ p to h. record { slot = ap (option_map (λ (z : ThreadPrefix). z.slot)) h; number = is.numbers p to h };
       all = is.threads_length ∙ at_end;
     })

@@ -36,8 +36,8 @@ gathered g c =
     let front = front_of c.args.none.now c.reach_all.new.propagation.overlay in
     if_ok_three c.gathered.result (λ f. f.positions ≡ c.in_ok-positions.positions) (λ f. (a : ℕ) → a < d.threads.count → included_count f a ≡ front a)
     (λ f. (p : ℕ) → Contains c.args.places.now p → p ≤ f.end) (AreGathered s d.threads front) (λ (fronts : Fronts). λ is same most.
-    let kept : (arc_value fronts.positions).items ≡ (arc_value d.threads.positions).items =
-    (λ i. (arc_value (is i)).items) ∙ (λ i. (c.in_ok-positions.ensures i).items) in
+    let kept : arc_value fronts.positions ≡ arc_value d.threads.positions =
+    (λ i. arc_value (is i)) ∙ c.in_ok-positions.ensures in
     let are = subst (AreSlotPlaces s (slots_of d.threads)) (sym kept) c.requires.requirements.positions in
     all_gathered s c.args.places.now d.threads front fronts c.len-len.ensures.well_formed c.requires.requirements.slots are same most
     c.in_ok-reach_all.ensures.closure)

@@ -16,8 +16,8 @@ gathered c =
     let is = c.requires.scratch in
     let fronts = c.in_ok-fronts.fronts in
     let positions = c.in_ok-positions.positions in
-    let first : (arc_value fronts.positions).items ≡ (arc_value positions).items = λ i. (arc_value (c.in_ok-fronts.ensures.positions i)).items in
-    let second : (arc_value positions).items ≡ (arc_value d.threads.positions).items = λ i. (c.in_ok-positions.ensures i).items in
+    let first : arc_value fronts.positions ≡ arc_value positions = λ i. arc_value (c.in_ok-fronts.ensures.positions i) in
+    let second : arc_value positions ≡ arc_value d.threads.positions = c.in_ok-positions.ensures in
     let are = subst (AreSlotPlaces s (slots_of d.threads)) (sym (first ∙ second)) is.requirements.positions in
     all_gathered s c.args.places.now d.threads (upper_front self) fronts c.len-len.ensures.well_formed is.requirements.slots are
     c.in_ok-fronts.ensures.fronts c.in_ok-fronts.ensures.end c.requires.closure
