@@ -106,7 +106,11 @@ impl<'a> Refuter<'a> {
         requires { IsKnownRow self.now row }
         ensures { IfOk result (λ refuted. (refuted.row ≡ row) × IsRefutedRow self.now refuted) }
     {
-        let refutation = self.refutation(search, &row.cycle, &row.found)?;
+        let refutation = if row.is_confirmed() {
+            None
+        } else {
+            Some(self.refute(search, &row.cycle)?)
+        };
         Ok(RefutedRow { row, refutation })
     }
 

@@ -89,7 +89,10 @@ impl<'a> Collector<Row> for TaskRows<'a> {
     fn take(&mut self, row: Row) -> Result<(), EarlyEnd> {
         let size = row_size(&row);
         let certain = confirmed_of(&row);
-        let Ok(()) = self.rows.push(row.into_bare()) else {
+        let Ok(bare) = row.into_bare(self.alloc) else {
+            return Err(EarlyEnd::NoMemory);
+        };
+        let Ok(()) = self.rows.push(bare) else {
             return Err(EarlyEnd::NoMemory);
         };
         self.bytes = self.bytes.saturating_add(size);

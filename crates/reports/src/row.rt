@@ -1,11 +1,12 @@
 //! The rows of a report.
 
-ghost use Rattle.std.specs.Prelude.{◌≡◌};
+ghost use Rattle.std.specs.Prelude.{◌≡◌, is_some, IfOk};
 
 use dependencies::Dependency;
 use fronts::Fronts;
+use std::alloc::Global;
 use std::marker::Model;
-use trace_model::{Cycle, Instance};
+use trace_model::{Cycle, Instance, NoMemory};
 
 /// The least reached instance of a confirmed cycle, one place for each member, and the fronts of
 /// its closure. Contracts see these as the witness: the places of the least reordering that reaches
@@ -25,31 +26,44 @@ impl Model for Found {
     ghost view = { λ f. record { places = f.places; witness = included_places f.witness } };
 }
 
-/// A cycle, and the instance if it is confirmed. It takes a third of the memory of a [`Row`].
-/// Contracts see it as a row of the trace.
+/// A cycle, and the instance if it is confirmed, which has memory of its own. A potential row takes
+/// a fifth of the memory of a [`Row`]. Contracts see it as a row of the trace.
 #[derive(Drop)]
 pub struct BareRow {
     pub cycle: Cycle,
-    pub found: Option<Found>,
+    found: Option<Box<Found, Global>>,
 }
 
 impl Model for BareRow {
     ghost use Rattle.trace_model.specs.Theory.Rows as model;
+    ghost use Rattle.std.specs.Option.{option_map};
 
     ghost Value = { model.Row };
 
-    ghost view = { λ r. record { cycle = r.cycle; found = r.found } };
+    ghost view = { λ r. record { cycle = r.cycle; found = option_map (λ b. b.value) r.found } };
 }
 
 impl BareRow {
+    /// Returns whether the row is confirmed. Does not allocate.
+    pub fn is_confirmed(&self) -> bool
+        ensures { result ≡ is_some self.now.found }
+    {
+        self.found.is_some()
+    }
+
     /// Returns the row with the dependencies of its members. Does not allocate.
     pub fn with(self, dependencies: Vec<Dependency>) -> Row
         ensures { result ≡ record { row = self; dependencies = dependencies.items } }
     {
+        let BareRow { cycle, found } = self;
+        let found = match found {
+            Some(found) => Some(Box::into_inner(found)),
+            None => None,
+        };
         Row {
-            cycle: self.cycle,
+            cycle,
             dependencies,
-            found: self.found,
+            found,
         }
     }
 }
@@ -83,16 +97,23 @@ impl Model for Row {
 }
 
 impl Row {
-    /// Returns the row without the dependencies. Does not allocate.
-    pub fn into_bare(self) -> BareRow
-        ensures { result ≡ self.row }
+    /// Returns the row without the dependencies. Allocates only for a confirmed row.
+    ///
+    /// # Errors
+    /// `NoMemory` if an allocation fails. The row is dropped.
+    pub fn into_bare(self, alloc: Global) -> Result<BareRow, NoMemory>
+        ensures { IfOk result (λ bare. bare ≡ self.row) }
     {
         let Row {
             cycle,
             dependencies: _,
             found,
         } = self;
-        BareRow { cycle, found }
+        let found = match found {
+            Some(found) => Some(Box::new(alloc, found)?),
+            None => None,
+        };
+        Ok(BareRow { cycle, found })
     }
 
     /// Returns the list of the dependencies, and drops the rest. Does not allocate.

@@ -1,13 +1,18 @@
 use Rattle.std.proofs.Common.{sym, subst, ◌∙◌}
+use Rattle.std.proofs.lemmas.Option.{same_Some}
 use Rattle.findings.specs.Analyses.{AreTraceRequirements}
+use Rattle.sp_closure.specs.Scratches.{IsScratch}
+use Rattle.findings.proofs.rows.row_by.Goals.{then-is_none+in_ok-new+in-Some-1, then-is_none+in_ok-new+in-None-1, else-is_none}
 use Rattle.findings.proofs.rows.row_by.Goals as goal
 
-pub unreachable-requires : goal.unreachable-requires
-unreachable-requires c =
-    subst (AreTraceRequirements c.args.snapshot.now c.args._bound) c.in_default.is c.requires.tables.requirements c.args.cycle c.requires.cycle
-
-pub row_of-row-requires-clause-scratch : goal.row_of-row-requires-clause-scratch
-row_of-row-requires-clause-scratch c =
+pub row_of-requires-clause-scratch : goal.row_of-requires-clause-scratch
+row_of-requires-clause-scratch c =
     let s = c.args.snapshot.now in
+    let d = c.in-Some.requirements in
+    let own = c.in-Some-scratch.own in
     let known = subst (AreTraceRequirements s c.args._bound) c.in-Some.is c.requires.tables.requirements in
-    c.in_ok-own.ensures s known (λ kept is. c.requires.scratch kept (sym c.take.ensures.value ∙ is) c.in-Some.requirements c.in-Some.is)
+    elim c.if-is_none.branch [
+      | then-is_none+in_ok-new+in-Some-1 w ↦ subst (IsScratch s d) (same_Some w.in_ok-new.field-0 own (sym w.scratch-is ∙ c.in-Some-scratch.is)) (w.in_ok-new.ensures.scratch s known)
+      | then-is_none+in_ok-new+in-None-1 w ↦ subst (IsScratch s d) (same_Some w.in_ok-new.field-0 own (sym w.scratch-is ∙ c.in-Some-scratch.is)) (w.in_ok-new.ensures.scratch s known)
+      | else-is_none w ↦ c.requires.scratch own (sym w.scratch-is ∙ c.in-Some-scratch.is) d c.in-Some.is
+    ]
