@@ -145,39 +145,42 @@ fn report_events<R: Threads + Sync, P: Progress + Sync, O: Write>(
     }
 }
 
-/// Writes the report on the events of the file, or why there is none.
+/// Writes the report on the events of the file, or why there is none. The bytes of the file are
+/// freed when its events are read.
 fn report<R: Threads + Sync, P: Progress + Sync, O: Write>(
     rt: &R,
     alloc: Global,
     state: RandomState,
-    file: &[u8],
+    file: Vec<u8>,
     bound: Bound,
     progress: &P,
     out: &mut O,
 ) -> Result<Status, CommandError>
-    ensures { EndsWithResult (OfflinePrints file.now bound) (HasBadLine file.now) result
+    ensures { EndsWithResult (OfflinePrints file.items bound) (HasBadLine file.items) result
         (O.contents out.old) (O.contents out.new) }
 {
-    let events = read_events(alloc, file)?;
+    let events = read_events(alloc, &file)?;
+    drop(file);
     report_events(rt, alloc, state, events, bound, progress, out)
 }
 
 /// Writes the report on the events in `file` to `out`: question 0, cycles of at most `bound`
 /// members. If an event is not lawful or there is no report, `out` gets one line that says so, and
 /// the status is `Refused`. One thread per processor computes the tasks and calls `progress` after
-/// each. An error message about the file `name` goes to `err`.
+/// each. An error message about the file `name` goes to `err`. The bytes of the file are freed when
+/// its events are read.
 pub fn run_offline<R: Threads + Sync, P: Progress + Sync, O: Write, E: Write>(
     rt: &R,
     alloc: Global,
     state: RandomState,
     name: &str,
-    file: &[u8],
+    file: Vec<u8>,
     bound: Bound,
     progress: &P,
     out: &mut O,
     err: &mut E,
 ) -> Status
-    ensures { OfflineTells file.now bound result (O.contents out.old) (O.contents out.new) }
+    ensures { OfflineTells file.items bound result (O.contents out.old) (O.contents out.new) }
 {
     let ended = report(rt, alloc, state, file, bound, progress, out);
     reported(ended, name, err)
@@ -188,7 +191,7 @@ fn offline_bytes<T: Threads + Sync>(
     rt: &HostRuntime,
     threads: &T,
     file: &str,
-    bytes: &[u8],
+    bytes: Vec<u8>,
     bound: u32,
     progress: &ProgressLine<'_, HostRuntime>,
 ) -> io::Result<Status>
@@ -232,7 +235,5 @@ pub fn offline_file<T: Threads + Sync>(
     let Some(bytes) = read_file(rt, file)? else {
         return Ok(Status::Error);
     };
-    let reported = offline_bytes(rt, threads, file, &bytes, bound, &progress);
-    drop(bytes);
-    reported
+    offline_bytes(rt, threads, file, bytes, bound, &progress)
 }

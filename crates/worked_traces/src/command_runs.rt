@@ -58,7 +58,7 @@ impl Outcome {
             alloc,
             state,
             file,
-            &bytes,
+            bytes,
             bound,
             &NoProgress,
             out,
