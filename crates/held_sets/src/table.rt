@@ -37,7 +37,8 @@ impl HeldTable {
         }
     }
 
-    /// Returns the locks that `thread` holds. Does not allocate.
+    /// Returns the locks that `thread` holds. Does not allocate. Part of the public API; not called
+    /// by the program, which calls `outer_locks`.
     pub fn held(&self, thread: u32) -> HeldSet
         ensures { result ≡ held_in self.now thread }
     {
