@@ -52,7 +52,8 @@ impl LockGraph {
     }
 
     /// Reserves memory for one more number at each lock that `dependency` holds. The successors of
-    /// each lock do not change. Part of the public API; not called by the program, which calls `add`.
+    /// each lock do not change. Part of the public API; not called by the program, which calls
+    /// `add`.
     ///
     /// # Errors
     ///

@@ -2,8 +2,8 @@
 //! copy, and the text of the numbers that are not in it.
 //!
 //! The places of a witness are mostly consecutive. One copy of their text takes a small part of the
-//! processor time of writing each number. Where each is written, most follow from the number before:
-//! only the last digit changes.
+//! processor time of writing each number. If each is written, only the last digit changes from most
+//! numbers to the next.
 
 ghost use Rattle.std.specs.Prelude.{◌≡◌, ◌+◌, ◌-◌, ◌++◌, ◌<◌, ◌≤◌, ◌%◌, ◌^◌, codes, decimal, OnOk};
 ghost use Rattle.reports.specs.Text.{run_text};
@@ -104,7 +104,7 @@ impl Numeral {
         Numeral { number, text }
     }
 
-    /// Goes on to the next number. Of ten times nine only the last digit changes.
+    /// Goes on to the next number. Nine times of ten only the last digit changes.
     #[inline(always)]
     fn advance(&mut self)
         requires { self.old.number + 1 < 2 ^ 64 }

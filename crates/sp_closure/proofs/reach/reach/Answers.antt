@@ -6,7 +6,6 @@ use Rattle.std.proofs.lemmas.List.{take_more, take_all}
 use Rattle.std.proofs.lemmas.Option.{slice_get-get_or, none-some}
 use Rattle.trace_model.specs.Theory.Closure.{Places, IsClosed}
 use Rattle.dependencies.specs.Tables.{dependency_places}
-
 use Rattle.fronts.specs.Members.{lists}
 use Rattle.fronts.specs.Context.{fronts, slots, state, items, inside, context_events}
 use Rattle.fronts.proofs.InvariantLemmas.{done_closes}
