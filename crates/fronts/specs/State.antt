@@ -31,10 +31,10 @@ pub record IsNextRange (f : Fronts) (at start end : ℕ) : Type 0 where
 abbrev pub size_in : Trace → Fronts → ℕ
 size_in s f = length (ascending_places (included_set f) (length s))
 
--- From `p` on, the places up to `front` are included, and those from there up to `end` are not.
-pub record IsSetRun (f : Fronts) (p front end : ℕ) : Type 0 where
+-- From `p` on, the places before `rest` are included, and those from there up to `end` are not.
+pub record IsSetRun (f : Fronts) (p rest end : ℕ) : Type 0 where
   pub later : p < end
-  pub order : (p ≤ front) × (front ≤ end)
+  pub order : (p ≤ rest) × (rest ≤ end)
   pub within : end ≤ f.end
-  pub in_set : (q : ℕ) → p ≤ q → q < front → IsTrue (included_set f q)
-  pub outside : (q : ℕ) → front ≤ q → q < end → IsFalse (included_set f q)
+  pub in_set : (q : ℕ) → p ≤ q → q < rest → IsTrue (included_set f q)
+  pub outside : (q : ℕ) → rest ≤ q → q < end → IsFalse (included_set f q)

@@ -73,7 +73,7 @@ impl Front {
 }
 
 /// A set of places that contains a prefix of each thread, all before some place. It takes four
-/// bytes for each thread; the table of the places' threads is shared.
+/// bytes for each thread; the table of positions is shared.
 #[derive(Drop)]
 pub struct Fronts {
     pub(crate) positions: Arc<Positions, Global>,
@@ -148,9 +148,9 @@ impl Fronts {
         while place < self.end {
             let run = self.run_from(place);
             let (first, past) = if is_in {
-                (place, run.front)
+                (place, run.rest)
             } else {
-                (run.front, run.end)
+                (run.rest, run.end)
             };
             if first < past {
                 return first;
@@ -164,18 +164,18 @@ impl Fronts {
     #[inline(always)]
     fn run_from(&self, place: u32) -> SetRun
         requires { place < self.now.end }
-        ensures { IsSetRun self.now place result.front result.end }
+        ensures { IsSetRun self.now place result.rest result.end }
     {
         let Some(run) = self.positions.run_at(Place::new(place)) else {
             return SetRun {
-                front: place,
+                rest: place,
                 end: self.end,
             };
         };
         let end = run.end.min(self.end);
         let included = self.count(run.prefix.slot).saturating_sub(run.prefix.count);
         SetRun {
-            front: place + included.min(end - place),
+            rest: place + included.min(end - place),
             end,
         }
     }
@@ -192,10 +192,10 @@ impl Fronts {
     }
 }
 
-/// Places of a run: those before `front` are in the set, those from there up to `end` are not.
+/// Places of a run: those before `rest` are in the set, those from there up to `end` are not.
 #[derive(Clone, Copy)]
 struct SetRun {
-    front: u32,
+    rest: u32,
     end: u32,
 }
 
