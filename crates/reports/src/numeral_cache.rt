@@ -104,7 +104,7 @@ impl Numeral {
         Numeral { number, text }
     }
 
-    /// Goes on to the next number. Nine times of ten only the last digit changes.
+    /// Goes on to the next number. In nine of ten cases only the last digit changes.
     #[inline(always)]
     fn advance(&mut self)
         requires { self.old.number + 1 < 2 ^ 64 }
