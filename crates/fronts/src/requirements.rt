@@ -462,7 +462,7 @@ fn no_items(alloc: Global, count: u32) -> Result<Vec<Vec<Item>>, NoMemory>
     Ok(lists)
 }
 
-/// Appends the requirements of `place` to the list of its thread.
+/// Appends the requirements of `place` to the list of its thread. `facts` are those of the place.
 ///
 /// # Errors
 /// `NoMemory` if an allocation fails.
@@ -474,8 +474,10 @@ fn fill_place(
     lists: &mut Vec<Vec<Item>>,
     cache: &mut ItemCache,
     place: Place,
+    facts: &PlaceFacts,
 ) -> Result<(), NoMemory>
     requires slots { AreThreadSlots index.now.events threads.now }
+    requires facts { ArePlaceFacts index.now.events place facts.now }
     requires positions { AreTablePlaces index.now.events threads.now }
     requires locks { AreLockSlots index.now.events locks.now }
     requires in_trace { place < length index.now.events }
@@ -486,7 +488,6 @@ fn fill_place(
     ensures built { OnOk result (AreAllBuilt (with_slots index.now.events threads.now locks.now)
         (place + 1) lists.new.items) }
 {
-    let facts = facts_at(index, place.get() as usize);
     let position = position_of(index, threads, place);
     push_requirements(
         index,
@@ -496,7 +497,7 @@ fn fill_place(
         cache,
         place,
         position,
-        &facts,
+        facts,
     )
 }
 
@@ -527,7 +528,7 @@ fn fill(
         let facts = facts_at(index, place);
         let place = Place::new(place as u32);
         if !is_bare(index, threads, locks, place, &facts) {
-            fill_place(index, threads, locks, lists, &mut cache, place)?;
+            fill_place(index, threads, locks, lists, &mut cache, place, &facts)?;
         }
     }
     Ok(())
