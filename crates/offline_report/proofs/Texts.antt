@@ -7,10 +7,10 @@ use Rattle.reports.specs.Printed.{PrintedRow}
 use Rattle.reports.specs.Text.{about, counts, is_confirmed_row}
 use Rattle.reports.proofs.Counting.{count_by-flat_map, confirmed_within, report_by_tasks, rows_within}
 use Rattle.offline_report.specs.Offline.{IsPartOf, first_line_of, part_rows, size_of, tasks_report, tasks_text}
-use Rattle.offline_report.specs.declared.parts.Part.{Part}
+use Rattle.offline_report.specs.Parts.{PartView}
 use Rattle.offline_report.proofs.Sizes.{confirmed_are, cycles_are, sizes_are}
 
-module _ (events bound : ℕ) (tasks : List (List PrintedRow)) (parts : List Part) (written : AllZip IsPartOf tasks parts) where
+module _ (events bound : ℕ) (tasks : List (List PrintedRow)) (parts : List PartView) (written : AllZip IsPartOf tasks parts) where
   -- The text before the rows.
   abbrev head : List ℕ
   head = about 0 events bound ++ counts (sum_by (λ part. length (part_rows part)) parts) (sum_by (λ part. part.confirmed) parts)

@@ -23,7 +23,7 @@ use Rattle.trace_model.proofs.Theory.Unique.{rows_unique}
 use Rattle.offline_report.proofs.Lesser.{of_tasks}
 use Rattle.offline_report.proofs.Sizes.{sizes_are}
 use Rattle.offline_report.proofs.PlainRows.{CycleUp, joined, plain, some_rows, task_rows}
-use Rattle.offline_report.specs.declared.parts.Part.{Part}
+use Rattle.offline_report.specs.Parts.{PartView}
 use Rattle.offline_report.specs.declared.refused.OfflineRefused.{OfflineRefused}
 use Rattle.offline_report.specs.declared.refused.OfflineRefused.TheVariants.{Unlawful, TooLong, TooManyCycles, NoMemory}
 
@@ -51,27 +51,27 @@ named_tasks ds (v ∷ tasks) h =
     ∙ sym (flat_map-cons (λ (rows : List PrintedRow). rows) v tasks)
 
 -- The rows of a computed task name their dependencies.
-named_in : (s : Trace) (bound n : ℕ) (tasks : List (List PrintedRow)) (parts : List Part) → AreComputed s bound n tasks parts → (k : ℕ) (rows : List PrintedRow) → slice_get tasks k ≡ Some rows →
+named_in : (s : Trace) (bound n : ℕ) (tasks : List (List PrintedRow)) (parts : List PartView) → AreComputed s bound n tasks parts → (k : ℕ) (rows : List PrintedRow) → slice_get tasks k ≡ Some rows →
     All (λ p. p ≡ with_dependencies (dependencies s) p.row) rows
 named_in s bound n tasks parts c k rows is = (c.each k rows is).2.some.2.named
 
 -- The text on the computed parts is that on their rows.
-pub report_is : (s : Trace) (bound n len : ℕ) (tasks : List (List PrintedRow)) (parts : List Part) → AreComputed s bound n tasks parts → len ≡ length s →
+pub report_is : (s : Trace) (bound n len : ℕ) (tasks : List (List PrintedRow)) (parts : List PartView) → AreComputed s bound n tasks parts → len ≡ length s →
     tasks_report len bound tasks ≡ report_of s bound (all_plain tasks)
 unfolding report_of tasks_report
 report_is s bound n len tasks parts c l =
     ap (λ k. report 0 k bound (flat_map (λ rows. rows) tasks)) l
     ∙ ap (report 0 (length s) bound) (sym (named_tasks (dependencies s) tasks (named_in s bound n tasks parts c)))
 
-rows_at : (s : Trace) (bound n : ℕ) (tasks : List (List PrintedRow)) (parts : List Part) (task : ℕ) (rows : List Row) (found : Option (List PrintedRow)) →
+rows_at : (s : Trace) (bound n : ℕ) (tasks : List (List PrintedRow)) (parts : List PartView) (task : ℕ) (rows : List Row) (found : Option (List PrintedRow)) →
     AreComputed s bound n tasks parts → AreWhole parts → slice_get tasks task ≡ found → option_map plain found ≡ Some rows → AreRows s bound task rows
 rows_at s bound n tasks parts task rows None c w f e = absurd (none-some rows e)
 rows_at s bound n tasks parts task rows (Some v) c w f e =
     let (part, there, are) = c.each task v f in
-    let all = are.whole (sym (ap (λ (p : Part). p.is_whole) (get_or_from_slice_get parts task part part there)) ∙ w task part (slice_get_within parts task part there)) in
+    let all = are.whole (sym (ap (λ (p : PartView). p.is_whole) (get_or_from_slice_get parts task part part there)) ∙ w task part (slice_get_within parts task part there)) in
     subst (AreRows s bound task) (same_Some (plain v) rows e) (task_rows s bound task v all)
 
-pub are_tasks : (s : Trace) (bound : ℕ) (tasks : List (List PrintedRow)) (parts : List Part) → AreComputed s bound (length (dependencies s)) tasks parts → AreWhole parts → AreTasks s bound (all_plain tasks)
+pub are_tasks : (s : Trace) (bound : ℕ) (tasks : List (List PrintedRow)) (parts : List PartView) → AreComputed s bound (length (dependencies s)) tasks parts → AreWhole parts → AreTasks s bound (all_plain tasks)
 are_tasks s bound tasks parts c w = record {
   total = length-map tasks plain ∙ c.total;
   each = λ task rows e. rows_at s bound (length (dependencies s)) tasks parts task rows (slice_get tasks task) c w refl (sym (slice_get-map plain tasks task) ∙ e);
@@ -103,7 +103,7 @@ text_size ds (row ∷ rows) = omega (
   sum_by-cons (size ds) row rows,
 )
 
-module _ (s : Trace) (bound len : ℕ) (tasks : List (List PrintedRow)) (parts : List Part) (c : AreComputed s bound (length (dependencies s)) tasks parts) (l : len ≡ length s)
+module _ (s : Trace) (bound len : ℕ) (tasks : List (List PrintedRow)) (parts : List PartView) (c : AreComputed s bound (length (dependencies s)) tasks parts) (l : len ≡ length s)
     (over : MAX_REPORT < length (tasks_report len bound tasks)) where
   some_at : (k : ℕ) (rows : List PrintedRow) → slice_get tasks k ≡ Some rows → AreSomeRows s (CycleFrom (dependencies s) bound (0 + k)) rows
   some_at k rows is =
@@ -166,7 +166,7 @@ texts_by_task s (task ∷ tasks) =
     ∙ ap (rows_text s) (sym (flat_map-cons (λ (rows : List Row). rows) task.items (rows_by_task tasks)))
 
 -- The rows of all tasks, with the dependencies of their members.
-pub printed_all : (s : Trace) (bound n : ℕ) (tasks : List (List PrintedRow)) (parts : List Part) → AreComputed s bound n tasks parts →
+pub printed_all : (s : Trace) (bound n : ℕ) (tasks : List (List PrintedRow)) (parts : List PartView) → AreComputed s bound n tasks parts →
     printed_rows s (flat_map (λ rows. rows) (all_plain tasks)) ≡ flat_map (λ rows. rows) tasks
 printed_all s bound n tasks parts c = named_tasks (dependencies s) tasks (named_in s bound n tasks parts c)
 

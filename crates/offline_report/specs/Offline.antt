@@ -13,7 +13,7 @@ use Rattle.reports.specs.Printed.{PrintedRow, with_dependencies}
 use Rattle.reports.specs.Text.{about, counts, report, row_text, is_confirmed_row}
 use Rattle.cycle_search.specs.CycleSearch.{AreSome, CycleFrom, MoreThan}
 use Rattle.findings.specs.Collecting.{AreRowsOfCycles, AreSomeRows}
-use Rattle.offline_report.specs.declared.parts.Part.{Part}
+use Rattle.offline_report.specs.Parts.{PartView}
 use Rattle.offline_report.specs.declared.parts.ReportRows.{ReportRows}
 use Rattle.offline_report.specs.declared.refused.OfflineRefused.{OfflineRefused}
 use Rattle.offline_report.specs.declared.refused.OfflineRefused.TheVariants.{Unlawful, TooLong, TooManyCycles, NoMemory}
@@ -86,39 +86,39 @@ pub record HasRows (rows : List PrintedRow) (kept : List Row) (size certain : �
   pub confirmed : certain ≡ count_by is_confirmed_row rows
 
 -- The rows of a part, and the number of bytes of their texts.
-abbrev pub part_rows : Part → List Row
-part_rows part = part.rows.items
+abbrev pub part_rows : PartView → List Row
+part_rows part = part.rows
 
-abbrev pub size_of : Part → ℕ
+abbrev pub size_of : PartView → ℕ
 size_of part = part.bytes
 
 -- The part of these rows.
-abbrev pub IsPartOf : List PrintedRow → Part → Type 0
-IsPartOf rows part = HasRows rows part.rows.items part.bytes part.confirmed
+abbrev pub IsPartOf : List PrintedRow → PartView → Type 0
+IsPartOf rows part = HasRows rows part.rows part.bytes part.confirmed
 
 -- The rows are some of the task, and all of them if the part is whole.
-pub record AreInPart (s : Trace) (bound task : ℕ) (rows : List PrintedRow) (part : Part) :
+pub record AreInPart (s : Trace) (bound task : ℕ) (rows : List PrintedRow) (part : PartView) :
     Type 0 where
   pub some : AreSomeRows s (CycleFrom (dependencies s) bound task) rows
   pub whole : part.is_whole ≡ true → AreRowsOfCycles s (CycleFrom (dependencies s) bound task) rows
 
 -- The part of a task, or a reason that applies.
-abbrev pub IsTask : Trace → ℕ → ℕ → Result Part OfflineRefused → Type 0
+abbrev pub IsTask : Trace → ℕ → ℕ → Result PartView OfflineRefused → Type 0
 IsTask s bound task result =
     MatchResult result (λ part. (rows : List PrintedRow) × AreInPart s bound task rows part
     × IsPartOf rows part) IsNotComputed
 
 -- The part of a task whose text is written within a limit. Without a limit it is whole.
-abbrev pub IsTaskWithin : Trace → ℕ → ℕ → ℕ → Result Part OfflineRefused → Type 0
+abbrev pub IsTaskWithin : Trace → ℕ → ℕ → ℕ → Result PartView OfflineRefused → Type 0
 IsTaskWithin s bound limit task result = IsTask s bound task result
     × (limit ≡ 2 ^ 64 - 1 → IfOk result (λ part. part.is_whole ≡ true))
 
 -- The rows of the parts of the first `n` tasks.
 pub record AreComputed (s : Trace) (bound n : ℕ) (tasks : List (List PrintedRow))
-    (parts : List Part) : Type 0 where
+    (parts : List PartView) : Type 0 where
   pub total : length tasks ≡ n
   pub each : (task : ℕ) (rows : List PrintedRow) → slice_get tasks task ≡ Some rows →
-      (part : Part) × (slice_get parts task ≡ Some part) × AreInPart s bound task rows part
+      (part : PartView) × (slice_get parts task ≡ Some part) × AreInPart s bound task rows part
   pub written : AllZip IsPartOf tasks parts
 
 -- The results of the first `n` tasks in their order, or the error of one of them.
@@ -130,23 +130,23 @@ AreGathered {Given} may_give n result =
     (λ refused. Contains given (Err refused))
 
 -- The parts of all tasks.
-abbrev pub AreTextParts : Trace → ℕ → List Part → Type 0
+abbrev pub AreTextParts : Trace → ℕ → List PartView → Type 0
 AreTextParts s bound parts =
     (tasks : List (List PrintedRow)) × AreComputed s bound (length (dependencies s)) tasks parts
 
 -- Each part has all rows of its task.
-abbrev pub AreWhole : List Part → Type 0
+abbrev pub AreWhole : List PartView → Type 0
 AreWhole parts = All (λ part. part.is_whole ≡ true) parts
 
 -- The parts of all tasks whose texts are written within a limit, or a reason that applies. Without
 -- a limit each part is whole.
-abbrev pub ArePartsWithin : Trace → ℕ → ℕ → Result (Vec Part) OfflineRefused → Type 0
+abbrev pub ArePartsWithin : Trace → ℕ → ℕ → Result (Vec PartView) OfflineRefused → Type 0
 ArePartsWithin s bound limit result = MatchResult result (λ parts. AreTextParts s bound parts.items
     × (limit ≡ 2 ^ 64 - 1 → AreWhole parts.items)) IsNotComputed
 
 -- The parts of all tasks, each with all rows unless they are too long together; or a reason that
 -- applies.
-abbrev pub AreAllParts : Trace → ℕ → Result (Vec Part) OfflineRefused → Type 0
+abbrev pub AreAllParts : Trace → ℕ → Result (Vec PartView) OfflineRefused → Type 0
 AreAllParts s bound result = MatchResult result (λ parts. AreTextParts s bound parts.items
     × (sum_by size_of parts.items ≤ MAX_REPORT → AreWhole parts.items)) IsNotComputed
 

@@ -1,17 +1,19 @@
 //! The part of each task in the report.
-ghost use Rattle.std.specs.Prelude.{◌≡◌, ◌+◌, ◌<◌, ◌≤◌, ◌^◌, List, [], length, map, true, false, sum_by, IfOk, IsTrue, MatchOption};
+ghost use Rattle.std.specs.Prelude.{◌≡◌, ◌+◌, ◌<◌, ◌^◌, List, [], length, map, true, false, sum_by, IfOk, IsTrue, MatchOption};
 ghost use Rattle.std.specs.List.{All, AllZip};
 ghost use Rattle.trace_model.specs.declared.limits.TheConstants.{MAX_REPORT};
 ghost use Rattle.reports.specs.Printed.{PrintedRow};
 ghost use Rattle.offline_report.specs.Offline.{AreReportRowsOf, IsPartOf, part_rows, rows_by_task, size_of};
+ghost use Rattle.offline_report.specs.Parts.{kept_part};
 
 use reports::{BareRow, head_text};
 use std::alloc::Global;
+use std::marker::Model;
 use trace_model::{Bound, MAX_REPORT, NoMemory};
 
 /// Rows of a task in the report, without the dependencies of their members.
 #[derive(Drop)]
-pub(crate) struct Part {
+pub(crate) struct KeptRows {
     pub(crate) rows: Vec<BareRow>,
     /// The number of bytes of their texts.
     pub(crate) bytes: u64,
@@ -21,6 +23,32 @@ pub(crate) struct Part {
     pub(crate) confirmed: u64,
     /// Whether these are all rows of the task.
     pub(crate) is_whole: bool,
+}
+
+/// What is known of the rows of a task. Most tasks have none, and then nothing is allocated.
+#[derive(Drop)]
+enum Known {
+    /// The task has no row.
+    Empty,
+    /// The task is not computed.
+    NotComputed,
+    /// Rows of the task.
+    Kept(Box<KeptRows, Global>),
+}
+
+/// The rows of a task. Contracts see the rows, the number of bytes of their texts, the number of
+/// confirmed rows, and whether these are all rows of the task.
+#[derive(Drop)]
+pub(crate) struct Part {
+    known: Known,
+}
+
+impl Model for Part {
+    ghost use Rattle.offline_report.specs.Parts.{PartView, known_part};
+
+    ghost Value = { PartView };
+
+    ghost view = { λ p. known_part p.known };
 }
 
 /// The rows of a report, with its first line. They are without the dependencies of their members,
@@ -38,17 +66,103 @@ pub struct ReportRows {
 }
 
 impl Part {
-    /// Returns the part of no rows of a task that is not computed. Does not allocate.
-    pub(crate) fn none(alloc: Global) -> Part
+    /// Returns the part with these rows.
+    ///
+    /// # Errors
+    /// `NoMemory` if an allocation fails. The rows are dropped.
+    pub(crate) fn of(alloc: Global, kept: KeptRows) -> Result<Part, NoMemory>
+        ensures { IfOk result (λ part. part ≡ kept_part kept) }
+    {
+        let known = Known::Kept(Box::new(alloc, kept)?);
+        Ok(Part { known })
+    }
+
+    /// Returns the part of a task that has no row. Does not allocate.
+    pub(crate) fn empty() -> Part
+        ensures part { IsPartOf [] result }
+        ensures whole { result.is_whole ≡ true }
+    {
+        Part {
+            known: Known::Empty,
+        }
+    }
+
+    /// Returns the part of a task that is not computed. Does not allocate.
+    pub(crate) fn not_computed() -> Part
         ensures part { IsPartOf [] result }
         ensures whole { result.is_whole ≡ false }
     {
         Part {
-            rows: Vec::new(alloc),
-            bytes: 0,
-            longest: 0,
-            confirmed: 0,
-            is_whole: false,
+            known: Known::NotComputed,
+        }
+    }
+
+    /// Returns the number of rows.
+    fn count(&self) -> u64
+        ensures { result ≡ length self.now.rows }
+    {
+        match &self.known {
+            Known::Kept(kept) => kept.rows.len() as u64,
+            Known::Empty | Known::NotComputed => 0,
+        }
+    }
+
+    /// Returns the number of bytes of the texts of the rows.
+    fn bytes(&self) -> u64
+        ensures { result ≡ self.now.bytes }
+    {
+        match &self.known {
+            Known::Kept(kept) => kept.bytes,
+            Known::Empty | Known::NotComputed => 0,
+        }
+    }
+
+    /// Returns the number of bytes of the longest text of a row.
+    fn longest(&self) -> u64 {
+        match &self.known {
+            Known::Kept(kept) => kept.longest,
+            Known::Empty | Known::NotComputed => 0,
+        }
+    }
+
+    /// Returns the number of confirmed rows.
+    fn confirmed(&self) -> u64
+        ensures { result ≡ self.now.confirmed }
+    {
+        match &self.known {
+            Known::Kept(kept) => kept.confirmed,
+            Known::Empty | Known::NotComputed => 0,
+        }
+    }
+
+    /// Returns whether these are all rows of the task.
+    fn is_whole(&self) -> bool
+        ensures { result ≡ self.now.is_whole }
+    {
+        match &self.known {
+            Known::Kept(kept) => kept.is_whole,
+            Known::Empty => true,
+            Known::NotComputed => false,
+        }
+    }
+
+    /// Returns the rows. Does not allocate.
+    fn into_rows(self, alloc: Global) -> Vec<BareRow>
+        ensures { result.items ≡ self.rows }
+    {
+        let Part { known } = self;
+        match known {
+            Known::Kept(kept) => {
+                let KeptRows {
+                    rows,
+                    bytes: _,
+                    longest: _,
+                    confirmed: _,
+                    is_whole: _,
+                } = Box::into_inner(kept);
+                rows
+            }
+            Known::Empty | Known::NotComputed => Vec::new(alloc),
         }
     }
 }
@@ -60,7 +174,7 @@ fn after_parts(parts: &[Part]) -> Option<u64>
 {
     let mut left = MAX_REPORT as u64;
     for part in parts {
-        left = left.checked_sub(part.bytes)?;
+        left = left.checked_sub(part.bytes())?;
     }
     Some(left)
 }
@@ -69,7 +183,7 @@ fn after_parts(parts: &[Part]) -> Option<u64>
 pub(crate) fn are_whole(parts: &[Part]) -> bool
     ensures { IsTrue result → All (λ part. part.is_whole ≡ true) parts.now }
 {
-    parts.iter().all(|part| part.is_whole)
+    parts.iter().all(|part| part.is_whole())
 }
 
 /// Returns whether the texts of the parts have more than `MAX_REPORT` bytes.
@@ -86,7 +200,7 @@ fn cycles_in(parts: &[Part]) -> u64
 {
     let mut count = 0;
     for part in parts {
-        count += part.rows.len() as u64;
+        count += part.count();
     }
     count
 }
@@ -98,7 +212,7 @@ fn confirmed_among(parts: &[Part]) -> u64
 {
     let mut count = 0;
     for part in parts {
-        count += part.confirmed;
+        count += part.confirmed();
     }
     count
 }
@@ -107,7 +221,7 @@ fn confirmed_among(parts: &[Part]) -> u64
 fn longest_of(parts: &[Part]) -> u64 {
     parts
         .iter()
-        .fold(0, |most: u64, part| most.max(part.longest))
+        .fold(0, |most: u64, part| most.max(part.longest()))
 }
 
 /// Returns the rows of each part, in order.
@@ -119,7 +233,7 @@ fn rows_of_parts(alloc: Global, parts: Vec<Part>) -> Result<Vec<Vec<BareRow>>, N
 {
     let mut tasks = Vec::with_capacity(alloc, parts.len())?;
     for part in parts {
-        tasks.push_reserved(part.rows);
+        tasks.push_reserved(part.into_rows(alloc));
     }
     Ok(tasks)
 }

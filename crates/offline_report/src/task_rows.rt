@@ -1,14 +1,17 @@
 //! The rows of a task, measured while they are computed.
-ghost use Rattle.std.specs.Prelude.{◌≡◌, ◌-◌, ◌<◌, ◌^◌, cond, IsTrue};
+ghost use Rattle.std.specs.Prelude.{◌≡◌, ◌-◌, ◌<◌, ◌^◌, List, cond, IfOk, IsTrue};
+ghost use Rattle.reports.specs.Printed.{PrintedRow};
 ghost use Rattle.reports.specs.Text.{is_confirmed_row};
-ghost use Rattle.offline_report.specs.TaskRows.{HasNoRows};
+ghost use Rattle.offline_report.specs.Offline.{IsPartOf};
+ghost use Rattle.offline_report.specs.TaskRows.{AreRowsSoFar, HasNoRows};
 
-use crate::parts::Part;
+use crate::parts::{KeptRows, Part};
 use findings::Collector;
 use reports::{BareRow, Row, row_size};
 use std::alloc::Global;
 use std::mem;
 use std::sync::atomic::{AtomicU64, Ordering};
+use trace_model::NoMemory;
 
 /// The rows of one task so far, without the dependencies of their members.
 #[derive(Drop)]
@@ -52,22 +55,29 @@ impl<'a> TaskRows<'a> {
         }
     }
 
-    /// Returns the rows as a part, in memory of their size, and has none then. Does not allocate.
-    pub(crate) fn part(&mut self, is_whole: bool) -> Part
-        ensures rows { result.rows.items ≡ self.old.rows.items }
-        ensures bytes { result.bytes ≡ self.old.bytes }
-        ensures confirmed { result.confirmed ≡ self.old.confirmed }
-        ensures is_whole { result.is_whole ≡ is_whole }
+    /// Returns the rows as a part, in memory of their size, and has none then. Does not allocate if
+    /// they are all rows of the task and there is none.
+    ///
+    /// # Errors
+    /// `NoMemory` if an allocation fails.
+    pub(crate) fn part(&mut self, is_whole: bool) -> Result<Part, NoMemory>
+        ensures rows { IfOk result (λ part. (rows : List PrintedRow) → AreRowsSoFar rows self.old →
+            IsPartOf rows part) }
+        ensures is_whole { IfOk result (λ part. part.is_whole ≡ is_whole) }
     {
+        if is_whole && self.rows.is_empty() {
+            return Ok(Part::empty());
+        }
         let mut rows = mem::replace(&mut self.rows, Vec::new(self.alloc));
         rows.shrink_to_fit();
-        Part {
+        let kept = KeptRows {
             rows,
             bytes: self.bytes,
             longest: self.longest,
             confirmed: self.confirmed,
             is_whole,
-        }
+        };
+        Part::of(self.alloc, kept)
     }
 
     /// Counts `added` more bytes. Returns whether the texts of the tasks have more than the limit.
@@ -98,10 +108,12 @@ impl<'a> Collector<Row> for TaskRows<'a> {
         self.bytes = self.bytes.saturating_add(size);
         self.longest = self.longest.max(size);
         self.confirmed = self.confirmed.saturating_add(certain);
-        if self.is_over(size) {
-            Err(EarlyEnd::Over(self.part(false)))
-        } else {
-            Ok(())
+        if !self.is_over(size) {
+            return Ok(());
+        }
+        match self.part(false) {
+            Ok(part) => Err(EarlyEnd::Over(part)),
+            Err(_) => Err(EarlyEnd::NoMemory),
         }
     }
 }

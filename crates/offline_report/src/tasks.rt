@@ -91,8 +91,11 @@ impl<A: About> Piece<A> {
         };
         match job.collect(task, TaskRows::new(self.alloc, written, limit)) {
             Ok(mut rows) => {
+                let Ok(part) = rows.part(true) else {
+                    return Err(OfflineRefused::NoMemory);
+                };
                 hold.hold(QUESTION, task);
-                Ok(rows.part(true))
+                Ok(part)
             }
             Err(RowsRefused::Refused(EarlyEnd::Over(part))) => Ok(part),
             Err(_) => Err(OfflineRefused::NoMemory),
@@ -143,7 +146,7 @@ impl<'a, A: About + Send + Sync, H: Hold + Sync> Computes for Question<'a, A, H>
             return Err(OfflineRefused::NoMemory);
         }
         if self.written.load(Ordering::SeqCst) > self.limit {
-            return Ok(Part::none(self.alloc));
+            return Ok(Part::not_computed());
         }
         let part = piece.part(self.hold, task, &self.written, self.limit);
         self.note(&part);

@@ -1,7 +1,6 @@
-use Rattle.std.proofs.Common.{◌≡◌, List, ℕ, [], ◌∷◌, ◌++◌, sym, ap, subst, ◌∙◌, append_assoc, arith}
+use Rattle.std.proofs.Common.{◌≡◌, List, ℕ, [], ◌∷◌, ◌++◌, sym, ap, ◌∙◌, append_assoc, arith}
 use Rattle.std.proofs.lemmas.List.{append-nil, nil_from_length}
 use Rattle.trace_model.specs.Theory.Rows.{Row}
-use Rattle.reports.specs.Printed.{PrintedRow}
 use Rattle.reports.specs.Text.{row_text}
 use Rattle.offline_report.specs.Offline.{rows_text}
 use Rattle.offline_report.proofs.Pieces.{row_added}

@@ -1,7 +1,7 @@
-use Rattle.std.proofs.Common.{List, ◌++◌, sym, ap, subst, ◌∙◌, IfErr}
+use Rattle.std.proofs.Common.{◌++◌, sym, ap, subst, ◌∙◌, IfErr}
 use Rattle.std.proofs.lemmas.Result.{IfOk-from_err, err_from_is_err_and}
 use Rattle.trace_model.specs.Theory.Trace.{Trace}
-use Rattle.offline_report.specs.Offline.{IsOfflineRefusal, IsReport, rows_by_task, tasks_rows_text}
+use Rattle.offline_report.specs.Offline.{IsOfflineRefusal, rows_by_task, tasks_rows_text}
 use Rattle.offline_report.proofs.WholeReports.{text_is}
 use Rattle.offline_report.proofs.opening.Offline.report.Goals as goal
 
