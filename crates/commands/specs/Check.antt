@@ -23,6 +23,7 @@ use Rattle.commands.specs.Output.{EndsWithStatus}
 use Rattle.commands.specs.Replay.{AreLawfulEventsOf, UnlawfulPrints}
 use Rattle.commands.specs.declared.check_verdicts.HeadVerdict.{HeadVerdict}
 use Rattle.commands.specs.declared.check_verdicts.HeadVerdict.TheVariants as heads
+use Rattle.commands.specs.declared.check_verdicts.CheckedLine.{CheckedLine}
 use Rattle.commands.specs.declared.check_verdicts.CycleVerdict.{CycleVerdict}
 use Rattle.commands.specs.declared.check_verdicts.CycleVerdict.TheVariants.{Row, Witness, NoRefutation, Refutation}
 use Rattle.commands.specs.declared.exit.Status.{Status}
@@ -120,6 +121,11 @@ checked_lines rows verdicts =
 abbrev pub IsVerdictLine : Trace → StatedCycle → Bool → List ℕ → Type 0
 IsVerdictLine s r valid text = (v : CycleVerdict) × IsVerdictFor s r v × (valid ≡ is_valid v)
     × (text ≡ checked_line r.cycle v)
+
+-- The lines of right verdicts on cycles.
+abbrev pub AreVerdictLines : Trace → List StatedCycle → List CheckedLine → Type 0
+AreVerdictLines s rows lines =
+    AllZip (λ r line. IsVerdictLine s r line.is_valid line.text.items) rows lines
 
 -- The text has the lines of right verdicts on the contents of a file. The status is `Done` if all
 -- are valid.

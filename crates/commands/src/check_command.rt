@@ -17,6 +17,7 @@ use replay::EvidenceChecker;
 use std::alloc::Global;
 use std::hash::RandomState;
 use std::io::{self, BufWriter, Write};
+use std::thread::Threads;
 use trace_model::{Event, NoMemory};
 
 /// What the check of a file prints, and how it ends.
@@ -43,7 +44,8 @@ fn dependencies_of(
 }
 
 /// Checks the contents of a file of explained cycles.
-fn check_all(
+fn check_all<R: Threads + Sync>(
+    rt: &R,
     alloc: Global,
     state: RandomState,
     events: &[Event],
@@ -58,7 +60,7 @@ fn check_all(
     let checker = EvidenceChecker::new(alloc, state, events)?;
     let mut text = Vec::new(alloc);
     let is_head_valid = push_head(&mut text, events, file)?;
-    let are_rows_valid = push_rows(alloc, &checker, &table, &file.cycles, &mut text)?;
+    let are_rows_valid = push_rows(rt, alloc, &checker, &table, &file.cycles, &mut text)?;
     let status = if is_head_valid && are_rows_valid {
         Status::Done
     } else {
@@ -68,7 +70,8 @@ fn check_all(
 }
 
 /// Parses the explained cycles, checks them, and writes the verdicts.
-fn write_checked<O: Write>(
+fn write_checked<R: Threads + Sync, O: Write>(
+    rt: &R,
     alloc: Global,
     state: RandomState,
     events: &[Event],
@@ -80,7 +83,7 @@ fn write_checked<O: Write>(
         (O.contents out.old) (O.contents out.new) }
 {
     let explained = read_explained(alloc, file)?;
-    let Checked { text, status } = check_all(alloc, state, events, &explained)?;
+    let Checked { text, status } = check_all(rt, alloc, state, events, &explained)?;
     write_text(out, &text, status)
 }
 
@@ -88,8 +91,9 @@ fn write_checked<O: Write>(
 /// line for the first line of a report, if the file has it, and one for each cycle to `out`: that
 /// it is valid, or the first test that fails. Or it writes one line with the first event of the
 /// trace that is not lawful. An error message goes to `err`, with the name of the file at fault.
-/// The status is `Done` if all lines are valid.
-pub fn run_check<O: Write, E: Write>(
+/// The status is `Done` if all lines are valid. One thread per processor checks the cycles.
+pub fn run_check<R: Threads + Sync, O: Write, E: Write>(
+    rt: &R,
     alloc: Global,
     state: RandomState,
     trace: NamedFile<'_>,
@@ -104,7 +108,7 @@ pub fn run_check<O: Write, E: Write>(
         Ok(events) => events,
         Err(status) => return status,
     };
-    let ended = write_checked(alloc, state, &events, file.bytes, out);
+    let ended = write_checked(rt, alloc, state, &events, file.bytes, out);
     drop(events);
     reported(ended, file.name, err)
 }
@@ -115,7 +119,12 @@ pub fn run_check<O: Write, E: Write>(
 /// # Errors
 ///
 /// If an allocation or a standard stream fails before the check begins.
-pub fn check_files(rt: &HostRuntime, trace: &str, file: &str) -> io::Result<Status> {
+pub fn check_files<T: Threads + Sync>(
+    rt: &HostRuntime,
+    threads: &T,
+    trace: &str,
+    file: &str,
+) -> io::Result<Status> {
     let Some(events) = read_file(rt, trace)? else {
         return Ok(Status::Error);
     };
@@ -133,5 +142,5 @@ pub fn check_files(rt: &HostRuntime, trace: &str, file: &str) -> io::Result<Stat
     let state = RandomState::new(rt)?;
     let mut out = BufWriter::new(rt.alloc(), rt.stdout())?;
     let mut err = rt.stderr();
-    Ok(run_check(rt.alloc(), state, trace, file, &mut out, &mut err))
+    Ok(run_check(threads, rt.alloc(), state, trace, file, &mut out, &mut err))
 }

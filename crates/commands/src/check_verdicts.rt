@@ -3,7 +3,7 @@ ghost use Rattle.std.specs.Prelude.{◌≡◌, ◌≤◌, ◌==◌, count_by, is
 ghost use Rattle.std.specs.List.{All, list_any};
 ghost use Rattle.dependencies.specs.Tables.{HasDependenciesOf};
 ghost use Rattle.event_files.specs.ExplainedText.{IsStatedCycle, is_witness, stated_member, stated_cycle};
-ghost use Rattle.commands.specs.Check.{IsHeadVerdict, IsVerdictLine, IsVerdictFor, is_valid, step_in, steps_in};
+ghost use Rattle.commands.specs.Check.{AreVerdictLines, IsHeadVerdict, IsVerdictLine, IsVerdictFor, is_valid, step_in, steps_in};
 ghost use Rattle.commands.specs.CheckWords.{checked_line};
 ghost use Rattle.commands.specs.ExplainedRows.{IsRowOf};
 
@@ -11,8 +11,10 @@ use crate::check_words::push_verdict;
 use crate::explained_rows::{RowFault, row_fault};
 use dependencies::DepTable;
 use event_files::{Evidence, Explained, ExplainedMember, ExplainedStep, ReportHead};
+use rayon::prelude::*;
 use replay::{EvidenceChecker, RefutationVerdict, Verdict};
 use std::alloc::Global;
+use std::thread::Threads;
 use trace_model::{Cycle, Derivation, Instance, NoMemory, Refutation, RefutationStep};
 
 /// The result of the check of the first line of a report. The tests are made in this order.
@@ -234,7 +236,7 @@ fn line_of(alloc: Global, cycle: &Cycle, verdict: CycleVerdict) -> Result<Checke
 }
 
 /// Returns the line of a cycle with the verdict on it.
-pub(crate) fn line_on(
+fn line_on(
     alloc: Global,
     checker: &EvidenceChecker<'_>,
     table: &DepTable,
@@ -250,4 +252,38 @@ pub(crate) fn line_on(
         Ok(verdict) => line_of(alloc, &explained.cycle, verdict),
         Err(no_memory) => Err(no_memory),
     }
+}
+
+/// The least number of cycles of a piece. One thread computes the verdicts of a piece.
+const LEAST_PIECE: usize = 16;
+
+/// Returns the line of each cycle with the verdict on it, in the order of the cycles. The verdicts
+/// are computed on all processors.
+///
+/// # Errors
+/// `NoMemory` if an allocation fails.
+pub(crate) fn lines_on<R: Threads + Sync>(
+    rt: &R,
+    alloc: Global,
+    checker: &EvidenceChecker<'_>,
+    table: &DepTable,
+    cycles: &[Explained],
+) -> Result<Vec<CheckedLine>, NoMemory>
+    requires rows { All IsStatedCycle (map stated_cycle cycles.now) }
+    requires table { HasDependenciesOf table.now checker.now (length checker.now) }
+    ensures { IfOk result (λ lines.
+        AreVerdictLines checker.now (map stated_cycle cycles.now) lines.items) }
+{
+    cycles
+        .into_par_iter()
+        .with_min_len(LEAST_PIECE)
+        .map(
+            |explained: &Explained| -> Result<CheckedLine, NoMemory>
+                requires row { IsStatedCycle (stated_cycle explained.now) }
+                requires table { HasDependenciesOf table.now checker.now (length checker.now) }
+                ensures { IfOk result (λ line. IsVerdictLine checker.entry.now
+                    (stated_cycle explained.now) line.is_valid line.text.items) }
+            { line_on(alloc, checker, table, explained) },
+        )
+        .collect(rt, alloc)?
 }

@@ -6,13 +6,14 @@ ghost use Rattle.event_files.specs.ExplainedText.{IsStatedCycle, contents_of, st
 ghost use Rattle.commands.specs.Check.{AddsHead, AddsRows, is_valid_head};
 ghost use Rattle.commands.specs.CheckWords.{checked_line, head_verdict_line, refutation_words, row_words, sentence, step_words};
 
-use crate::check_verdicts::{CycleVerdict, HeadVerdict, head_verdict, line_on};
+use crate::check_verdicts::{CycleVerdict, HeadVerdict, head_verdict, lines_on};
 use crate::explained_rows::RowFault;
 use crate::text::{push_last, push_number};
 use dependencies::DepTable;
 use event_files::{Explained, ExplainedFile, push_entry};
 use replay::{EvidenceChecker, RefutationFault, RefutationVerdict, Verdict};
 use std::alloc::Global;
+use std::thread::Threads;
 use trace_model::{Cycle, Derived, Event, NoMemory};
 
 /// Appends the line of the verdict on the first line of a report.
@@ -194,8 +195,10 @@ pub(crate) fn push_head(
     Ok(is_valid_head(&verdict))
 }
 
-/// Appends the line of each cycle. Returns whether all are valid.
-pub(crate) fn push_rows(
+/// Appends the line of each cycle. Returns whether all are valid. The verdicts are computed on all
+/// processors.
+pub(crate) fn push_rows<R: Threads + Sync>(
+    rt: &R,
     alloc: Global,
     checker: &EvidenceChecker<'_>,
     table: &DepTable,
@@ -207,13 +210,11 @@ pub(crate) fn push_rows(
     ensures { IfOk result (λ valid. AddsRows checker.now (map stated_cycle cycles.now) valid
         text.old.items text.new.items) }
 {
+    let lines = lines_on(rt, alloc, checker, table, cycles)?;
     let mut are_valid = true;
-    for explained in cycles {
-        let line = line_on(alloc, checker, table, explained)?;
+    for line in lines.as_slice() {
         text.extend_from_slice(&line.text)?;
-        if !line.is_valid {
-            are_valid = false;
-        }
+        are_valid = are_valid && line.is_valid;
     }
     Ok(are_valid)
 }

@@ -175,7 +175,7 @@ fn run<T: Threads + Wait + Clock + Copy + Send + Sync>(
         Invocation::Explain { file, bound, cycle } => {
             explain_named(rt, &threads, file, bound, cycle)
         }
-        Invocation::Check { trace, file } => check_files(rt, trace, file),
+        Invocation::Check { trace, file } => check_files(rt, &threads, trace, file),
     }
 }
 

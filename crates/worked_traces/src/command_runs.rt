@@ -108,15 +108,16 @@ pub(crate) fn explained<T: Threads + Sync>(
 ///
 /// # Errors
 /// Fails if an allocation fails.
-pub(crate) fn checked(
+pub(crate) fn checked<T: Threads + Sync>(
     rt: &HostRuntime,
+    threads: &T,
     trace: NamedFile<'_>,
     file: NamedFile<'_>,
 ) -> io::Result<Outcome> {
     let state = RandomState::new(rt)?;
     let mut outcome = Outcome::new(rt.alloc());
     let (out, err) = (&mut outcome.out, &mut outcome.err);
-    outcome.status = run_check(rt.alloc(), state, trace, file, out, err);
+    outcome.status = run_check(threads, rt.alloc(), state, trace, file, out, err);
     Ok(outcome)
 }
 
@@ -141,7 +142,12 @@ fn explain<T: Threads + Sync>(
 }
 
 /// Runs `check` over the files with these names.
-fn check(rt: &HostRuntime, trace: &str, file: &str) -> io::Result<Outcome> {
+fn check<T: Threads + Sync>(
+    rt: &HostRuntime,
+    threads: &T,
+    trace: &str,
+    file: &str,
+) -> io::Result<Outcome> {
     let events = fs::read(rt, trace)?;
     let cycles = fs::read(rt, file)?;
     let trace = NamedFile {
@@ -152,7 +158,7 @@ fn check(rt: &HostRuntime, trace: &str, file: &str) -> io::Result<Outcome> {
         name: file,
         bytes: &cycles,
     };
-    checked(rt, trace, file)
+    checked(rt, threads, trace, file)
 }
 
 /// Runs a command line. A report is computed on threads of `threads`.
@@ -182,7 +188,7 @@ pub(crate) fn run<T: Threads + Sync>(
             };
             return explain(rt, threads, file, bound, *cycle);
         }
-        Invocation::Check { trace, file } => return Ok(check(rt, trace, file)?),
+        Invocation::Check { trace, file } => return Ok(check(rt, threads, trace, file)?),
         Invocation::Serve { .. } => bail!("no case is a server"),
     }
     Ok(outcome)

@@ -7,7 +7,12 @@ use std::thread::Threads;
 use trace_model::Bound;
 
 /// Returns whether the checker accepts all cycles in the text.
-pub(crate) fn are_valid(rt: &HostRuntime, trace: &[u8], text: &[u8]) -> Result<bool> {
+pub(crate) fn are_valid<T: Threads + Sync>(
+    rt: &HostRuntime,
+    threads: &T,
+    trace: &[u8],
+    text: &[u8],
+) -> Result<bool> {
     let trace = NamedFile {
         name: "the trace",
         bytes: trace,
@@ -16,7 +21,7 @@ pub(crate) fn are_valid(rt: &HostRuntime, trace: &[u8], text: &[u8]) -> Result<b
         name: "the cycles",
         bytes: text,
     };
-    Ok(checked(rt, trace, file)?.status == Status::Done)
+    Ok(checked(rt, threads, trace, file)?.status == Status::Done)
 }
 
 /// Returns whether `explain` prints the first line and the rows of the report, and the checker
@@ -46,5 +51,5 @@ pub(crate) fn are_explained<T: Threads + Sync>(
             rows.push_str("\n")?;
         }
     }
-    Ok(rows.as_str() == report && are_valid(rt, trace.bytes, &outcome.out)?)
+    Ok(rows.as_str() == report && are_valid(rt, threads, trace.bytes, &outcome.out)?)
 }

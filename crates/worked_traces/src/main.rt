@@ -69,7 +69,7 @@ fn fault_in_other_ways<T: Threads + Sync>(
             Ok((!is_right).then_some("an explanation"))
         }
         Invocation::Explain { file, .. } if outcome.status == Status::Done => {
-            let is_right = are_valid(rt, &fs::read(rt, *file)?, &outcome.out)?;
+            let is_right = are_valid(rt, threads, &fs::read(rt, *file)?, &outcome.out)?;
             Ok((!is_right).then_some("the check of its output"))
         }
         _ => Ok(None),

@@ -22,10 +22,10 @@ head_wrong : (a b : Bool) → a ≡ false → Refused ≡ (if a && b then Done e
 head_wrong a b x = λ i. if (sym x i) && b then Done else Refused
 
 pub push_rows-requires-clause-table : goal.push_rows-requires-clause-table
-push_rows-requires-clause-table c = subst (λ (s : Trace). HasDependenciesOf c.in_ok-table.table s (length s)) (sym c.in_ok-checker.ensures) c.in_ok-table.ensures
+push_rows-requires-clause-table g c κs within = subst (λ (s : Trace). HasDependenciesOf c.in_ok-table.table s (length s)) (sym c.in_ok-checker.ensures) c.in_ok-table.ensures
 
 pub returns : goal.returns
-returns c =
+returns g c =
     let s = c.args.events.now in
     let (heads, heads_are, heads_valid, heads_grew) = c.in_ok-is_head_valid.ensures in
     let added = subst (λ (l : List Explained). AddsRows s (map stated_cycle l) c.in_ok-are_rows_valid.are_rows_valid c.push_head.new.text.items c.push_rows.new.text.items) c.deref.ensures.value
