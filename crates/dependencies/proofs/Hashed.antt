@@ -6,7 +6,6 @@ use Rattle.std.proofs.lemmas.Option.{slice_get-map, slice_get-get_or, slice_get_
 use Rattle.std.specs.Cmp.{nat_eq_equiv}
 use Rattle.std.specs.HashMap.{get}
 use Rattle.std.specs.Option.{option_map, option_map_or}
-use Rattle.std.specs.declared.random_state.RandomState.{RandomState}
 use Rattle.indexmap.specs.IndexMap.{IndexMap}
 use Rattle.trace_model.specs.Theory.Trace.{last_place}
 use Rattle.trace_model.proofs.Theory.Places.{last_place_some}
@@ -59,15 +58,15 @@ hash_at links i x h = slice_get-map (λ x. x.hash) links i ∙ ap (option_map (�
 abbrev pub StepsBack : List Link → HashedView → Type 0
 StepsBack links v = (m hash : ℕ) (x : Link) → x ≡ get_or links m x → slice_get v.hashes m ≡ Some hash → x.earlier ≡ last_passing (λ y. hash == y) v.hashes m
 
-pub steps_back : (lasts : IndexMap ℕ ℕ RandomState) (links : List Link) (room : Bool) → AreLinked lasts links → StepsBack links (record { hashes = hashes_of links; room = room })
-steps_back lasts links room are m hash x read h =
+pub steps_back : {S : Type 0} → (lasts : IndexMap ℕ ℕ S) (links : List Link) (room : Bool) → AreLinked lasts links → StepsBack links (record { hashes = hashes_of links; room = room })
+steps_back {S} lasts links room are m hash x read h =
     let within : m < length links = let a = slice_get_within (hashes_of links) m hash h in let b = length-map links (λ x. x.hash) in omega arith in
     let at : slice_get links m ≡ Some x = slice_get-get_or links m x within ∙ ap Some (sym read) in
     let same : Some x.hash ≡ Some hash = sym (hash_at links m x at) ∙ h in
     are.earlier m x at ∙ ap (λ o. last_passing (λ y. option_map_or (λ k. k == y) o false) (hashes_of links) m) same
 
 -- a map and links with one more number
-module _ (lasts after : IndexMap ℕ ℕ RandomState) (links : List Link) (x : Link) (are : AreLinked lasts links) where
+module _ {S : Type 0} (lasts after : IndexMap ℕ ℕ S) (links : List Link) (x : Link) (are : AreLinked lasts links) where
   agree : (n : ℕ) (test : ℕ → Bool) → n ≤ length links → last_passing test (hashes_of links) n ≡ last_passing test (hashes_of (links ++ x ∷ [])) n
   agree n test within = last_place-agree (passes_at test (hashes_of links)) (passes_at test (hashes_of (links ++ x ∷ []))) n (λ j l. ap (λ o. option_map_or test o false)
       (slice_get-map (λ y. y.hash) links j ∙ ap (option_map (λ y. y.hash)) (sym (get-append links (x ∷ []) j (omega arith))) ∙ sym (slice_get-map (λ y. y.hash) (links ++ x ∷ []) j)))

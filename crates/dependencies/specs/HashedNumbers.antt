@@ -3,7 +3,6 @@ use Rattle.std.specs.Prelude.{◌≡◌, ℕ, ◌==◌, Bool, false, nat_lt, ◌
 use Rattle.std.specs.Global.{Vec}
 use Rattle.std.specs.Option.{option_map_or}
 use Rattle.std.specs.HashMap.{get, spare}
-use Rattle.std.specs.declared.random_state.RandomState.{RandomState}
 use Rattle.indexmap.specs.IndexMap.{IndexMap}
 use Rattle.trace_model.specs.Theory.Trace.{last_place}
 use Rattle.dependencies.specs.declared.hashed_numbers.Link.{Link}
@@ -26,13 +25,13 @@ abbrev pub hashes_of : List Link → List ℕ
 hashes_of links = map (λ x. x.hash) links
 
 -- The map has the last number of each hash, and each link the last earlier number of its hash.
-pub record AreLinked (lasts : IndexMap ℕ ℕ RandomState) (links : List Link) : Type 0 where
+pub record AreLinked {S : Type 0} (lasts : IndexMap ℕ ℕ S) (links : List Link) : Type 0 where
   pub last : (hash : ℕ) →
       get (◌==◌) lasts hash ≡ last_passing (◌==◌ hash) (hashes_of links) (length links)
   pub earlier : (i : ℕ) (x : Link) → slice_get links i ≡ Some x →
       x.earlier ≡ last_passing (◌==◌ x.hash) (hashes_of links) i
 
 -- Memory is reserved for one more number.
-abbrev pub has_number_room : IndexMap ℕ ℕ RandomState → Vec Link → Bool
+abbrev pub has_number_room : {S : Type 0} → IndexMap ℕ ℕ S → Vec Link → Bool
 has_number_room lasts links =
     nat_lt 0 (spare lasts) && nat_lt (vec_len links) (vec_capacity links)

@@ -6,7 +6,6 @@ ghost use Rattle.dependencies.specs.HashedNumbers.{last_passing};
 use indexmap::IndexMap;
 use segments::MaybeIndex;
 use std::alloc::Global;
-use std::collections::hash_map::RandomState;
 use std::marker::Model;
 use trace_model::NoMemory;
 
@@ -20,10 +19,13 @@ struct Link {
 /// The hashes of numbers 0, 1, .., and a hash map from each hash to its last number. Each number
 /// links to the one before it with the same hash.
 ///
+/// The map takes its default hasher, whose seed is fixed. A hash is a number of 32 bits that
+/// depends on random keys (`hash_of`), so a stranger cannot choose hashes that collide in the map.
+///
 /// Contracts see the hashes, and whether memory is reserved for one more.
 #[derive(Drop)]
 pub(crate) struct HashedNumbers {
-    lasts: IndexMap<u32, u32, RandomState>,
+    lasts: IndexMap<u32, u32>,
     links: Vec<Link>,
 }
 
@@ -53,11 +55,11 @@ fn maybe_index(number: Option<u32>) -> MaybeIndex
 
 impl HashedNumbers {
     /// Returns the map without numbers. Does not allocate.
-    pub(crate) fn new(alloc: Global, state: RandomState) -> HashedNumbers
+    pub(crate) fn new(alloc: Global) -> HashedNumbers
         ensures { result.hashes ≡ [] }
     {
         HashedNumbers {
-            lasts: IndexMap::with_hasher(alloc, state),
+            lasts: IndexMap::new(alloc),
             links: Vec::new(alloc),
         }
     }

@@ -54,7 +54,7 @@ impl Keys {
             alloc,
             state,
             list: Segments::new(alloc),
-            numbers: HashedNumbers::new(alloc, state),
+            numbers: HashedNumbers::new(alloc),
             cache: PositionCache::new(),
         }
     }
@@ -187,7 +187,7 @@ impl Keys {
             alloc: self.alloc,
             state: self.state,
             list,
-            numbers: HashedNumbers::new(self.alloc, self.state),
+            numbers: HashedNumbers::new(self.alloc),
             cache: PositionCache::new(),
         })
     }
