@@ -1,5 +1,5 @@
 -- One more lock of a list of locks.
-use Rattle.std.proofs.Common.{◌≡◌, ◌≢◌, ℕ, ◌+◌, ◌<◌, List, [], ◌∷◌, ◌++◌, length, get_or, take, refl, sym, ap, ◌∙◌, arith, eqb-true, length-take}
+use Rattle.std.proofs.Common.{◌≡◌, ◌≢◌, ℕ, ◌+◌, ◌<◌, List, [], ◌∷◌, ◌++◌, length, get_or, take, refl, sym, ap, subst, ◌∙◌, arith, eqb-true, eq-eqb, length-take}
 use Rattle.std.specs.Prelude.{Bool, true, false, cond, ◌||◌, nat_eq, Some, slice_get}
 use Rattle.std.proofs.lemmas.Option.{slice_get_read, get_or_from_slice_get}
 use Rattle.std.specs.List.{list_any}
@@ -40,3 +40,30 @@ listed_more locks i n other before now' after distinct h so_far step =
     ∙ ap (λ b. cond b (before ++ n ∷ []) before)
     (sym (ap (list_any (λ l. nat_eq l other)) (take_more locks i 0 h) ∙ list_any-append (λ l. nat_eq l other) (take i locks) (get_or locks i 0 ∷ [])
     ∙ ap (λ b. list_any (λ l. nat_eq l other) (take i locks) || b) (or-false (nat_eq (get_or locks i 0) other))))
+
+listed_last : (locks : List ℕ) (i n other : ℕ) (before : List ℕ) → IsStrictlyIncreasing locks → i < length locks →
+    listed_with (take (i + 1) locks) n other before ≡ cond (nat_eq (get_or locks i 0) other) (listed_with (take i locks) n other before ++ n ∷ []) (listed_with (take i locks) n other before)
+listed_last locks i n other before up h = sym (listed_more locks i n other before _ _ up h refl refl)
+
+-- without the last number of a lock, the locks before it are left
+pub listed_less : (locks : List ℕ) (i j n : ℕ) (before old new : ℕ → List ℕ) → IsStrictlyIncreasing locks → i < length locks → j ≡ i + 1 →
+    ((other : ℕ) → old other ≡ listed_with (take j locks) n other (before other)) →
+    ((xs : List ℕ) (m : ℕ) → old (get_or locks i 0) ≡ xs ++ m ∷ [] → new (get_or locks i 0) ≡ xs) →
+    ((other : ℕ) → nat_eq (get_or locks i 0) other ≡ false → new other ≡ old other) →
+    (other : ℕ) → new other ≡ listed_with (take i locks) n other (before other)
+listed_less locks i j n before old new up h next was last others other = go (nat_eq (get_or locks i 0) other) refl
+  where
+    lock : ℕ
+    lock = get_or locks i 0
+
+    left : ℕ → List ℕ
+    left o = listed_with (take i locks) n o (before o)
+
+    had : (o : ℕ) → old o ≡ cond (nat_eq lock o) (left o ++ n ∷ []) (left o)
+    had o = was o ∙ ap (λ k. listed_with (take k locks) n o (before o)) next ∙ listed_last locks i n o (before o) up h
+
+    go : (b : Bool) → nat_eq lock other ≡ b → new other ≡ left other
+    go true e =
+        subst (λ o. new o ≡ left o) (eqb-true lock other e)
+        (last (left lock) n (had lock ∙ ap (λ b. cond b (left lock ++ n ∷ []) (left lock)) (eq-eqb lock lock refl)))
+    go false e = others other e ∙ had other ∙ ap (λ b. cond b (left other ++ n ∷ []) (left other)) e

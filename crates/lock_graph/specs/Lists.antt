@@ -1,5 +1,5 @@
 -- Lists of numbers by lock.
-use Rattle.std.specs.Prelude.{ℕ, ◌<◌, List, [], ◌∷◌, ◌++◌, nat_eq, IsSomeAnd, vec_len, vec_capacity, length, slice_index, if◌then◌else◌}
+use Rattle.std.specs.Prelude.{◌≡◌, ℕ, ◌<◌, List, [], ◌∷◌, ◌++◌, nat_eq, IsSomeAnd, vec_len, vec_capacity, length, slice_index, if◌then◌else◌}
 use Rattle.std.specs.Option.{option_map_or}
 use Rattle.trace_model.specs.Theory.Held.{has}
 use Rattle.std.specs.HashMap.{get, HashMap}
@@ -20,3 +20,8 @@ HaveListRoom m locks = (k : ℕ) → k < length locks → HasRoomAt m (slice_ind
 -- The numbers of the lock after `number` was added at each of the locks.
 abbrev pub listed_with : List ℕ → ℕ → ℕ → List ℕ → List ℕ
 listed_with locks number lock numbers = if has lock locks then numbers ++ number ∷ [] else numbers
+
+-- The lists have the numbers before, and the number at each of the locks.
+abbrev pub AreListedWith : {S : Type 0} → HashMap ℕ (Vec ℕ) S → List ℕ → ℕ → (ℕ → List ℕ) → Type 0
+AreListedWith m locks number before = (other : ℕ) →
+    lock_numbers m other ≡ listed_with locks number other (before other)

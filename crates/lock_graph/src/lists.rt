@@ -1,9 +1,9 @@
 //! Lists of numbers by lock.
 
-ghost use Rattle.std.specs.Prelude.{◌≡◌, ℕ, ◌++◌, ◌∷◌, [], nat_eq, cond, OnOk, OnErr, false};
+ghost use Rattle.std.specs.Prelude.{◌≡◌, ◌≤◌, ℕ, List, ◌++◌, ◌∷◌, [], length, take, nat_eq, cond, OnOk, OnErr, false};
 ghost use Rattle.std.specs.HashMap.{get};
 ghost use Rattle.std.specs.List.Sorted.{IsStrictlyIncreasing};
-ghost use Rattle.lock_graph.specs.Lists.{lock_numbers, listed_with, HasRoomAt, HaveListRoom};
+ghost use Rattle.lock_graph.specs.Lists.{lock_numbers, listed_with, AreListedWith, HasRoomAt, HaveListRoom};
 
 use indexmap::IndexMap;
 use std::alloc::Global;
@@ -13,7 +13,8 @@ use trace_model::NoMemory;
 /// The list of numbers of each lock.
 pub(crate) type Lists = IndexMap<u32, Vec<u32>, RandomState>;
 
-/// Adds a number at each of the locks, which must ascend.
+/// Adds a number at each of the locks, which must ascend. Hashes each lock once. If an allocation
+/// fails, the number is taken back from the locks before.
 pub(crate) fn add(
     lists: &mut Lists,
     alloc: Global,
@@ -21,18 +22,33 @@ pub(crate) fn add(
     number: u32,
 ) -> Result<(), NoMemory>
     requires { IsStrictlyIncreasing locks.now }
-    ensures ok { OnOk result ((other : ℕ) →
-        lock_numbers lists.new other ≡ listed_with locks.now number other
-        (lock_numbers lists.old other)) }
+    ensures ok { OnOk result (AreListedWith lists.new locks.now number (lock_numbers lists.old)) }
     ensures err { OnErr result ((other : ℕ) →
         lock_numbers lists.new other ≡ lock_numbers lists.old other) }
 {
-    if let [lock] = locks {
-        return add_one(lists, alloc, *lock, number);
+    for index in 0..locks.len() {
+        if let Err(refused) = add_one(lists, alloc, locks[index], number) {
+            take_back(lists, locks, index);
+            return Err(refused);
+        }
     }
-    reserve(lists, alloc, locks)?;
-    record(lists, locks, number);
     Ok(())
+}
+
+/// Takes back the last number of each of the first `count` locks, which must ascend.
+#[inline(never)]
+fn take_back(lists: &mut Lists, locks: &[u32], count: usize)
+    requires ascends { IsStrictlyIncreasing locks.now }
+    requires within { count ≤ length locks.now }
+    ensures { (number : ℕ) (before : ℕ → List ℕ) →
+        AreListedWith lists.old (take count locks.now) number before →
+        (other : ℕ) → lock_numbers lists.new other ≡ before other }
+{
+    let mut rest = count;
+    while rest > 0 {
+        rest -= 1;
+        take_one(lists, locks[rest]);
+    }
 }
 
 /// Reserves memory for one more number at each of the locks.
@@ -90,11 +106,11 @@ fn record_one(lists: &mut Lists, lock: u32, number: u32)
     }
 }
 
-/// Adds a number at a lock, which is hashed once.
+/// Adds a number at a lock.
 fn add_one(lists: &mut Lists, alloc: Global, lock: u32, number: u32) -> Result<(), NoMemory>
-    ensures ok { OnOk result ((other : ℕ) →
-        lock_numbers lists.new other ≡ listed_with (lock ∷ []) number other
-        (lock_numbers lists.old other)) }
+    ensures ok { OnOk result ((other : ℕ) → lock_numbers lists.new other
+        ≡ (cond (nat_eq lock other) (lock_numbers lists.old other ++ number ∷ [])
+        (lock_numbers lists.old other))) }
     ensures err { OnErr result ((other : ℕ) →
         lock_numbers lists.new other ≡ lock_numbers lists.old other) }
 {
@@ -107,4 +123,16 @@ fn add_one(lists: &mut Lists, alloc: Global, lock: u32, number: u32) -> Result<(
         }
     }
     Ok(())
+}
+
+/// Takes back the last number of a lock.
+fn take_one(lists: &mut Lists, lock: u32)
+    ensures last { (before : List ℕ) (number : ℕ) →
+        lock_numbers lists.old lock ≡ before ++ number ∷ [] → lock_numbers lists.new lock ≡ before }
+    ensures others { (other : ℕ) → nat_eq lock other ≡ false →
+        lock_numbers lists.new other ≡ lock_numbers lists.old other }
+{
+    if let Some(list) = lists.get_mut(&lock) {
+        list.pop();
+    }
 }
