@@ -2,12 +2,29 @@
 use Rattle.std.proofs.Common.{◌≡◌, ℕ, zero, suc, Bool, true, false, cond, List, [], ◌∷◌, take, slice_get, Option, Some, None, refl, sym, ap, ◌∙◌}
 use Rattle.std.proofs.lemmas.Option.{none-some, same_Some}
 use Rattle.std.specs.Option.{option_or}
+use Rattle.std.specs.HashMap.{HashMap, get, Updates, IsUnique}
 use Rattle.std.specs.Map.{keys_of, lookup}
-use Rattle.indexmap.specs.IndexMap.{insert_entry}
+use Rattle.indexmap.specs.IndexMap.{insert_entry, with_value_at}
+use Rattle.indexmap.proofs.CallerLemmas.{updates-with_value_at}
+use Rattle.number_map.proofs.Entries.{entry_at}
 use Rattle.trace_index.specs.declared.row.Key.{Key}
 use Rattle.trace_index.specs.contracts.row.KeyPartialEq.TheImpl.{eq-value}
 use Rattle.trace_index.specs.Links.{same_key}
-use Rattle.trace_index.proofs.Keys.{same_so, same_turned}
+use Rattle.trace_index.specs.Positions.{HasKeyAt}
+use Rattle.trace_index.proofs.Keys.{same, same_so, same_turned, get_same, keys_are}
+
+-- an update of the hash map sets the place of one key
+pub updated : {S : Type 0} → (m after : HashMap Key ℕ S) (key : Key) (place : ℕ) → Updates eq-value.it m after key (Some place) →
+    (q : Key) → get same_key after q ≡ cond (same_key key q) (Some place) (get same_key m q)
+updated m after key place update q =
+    sym (get_same after q) ∙ update.0 q ∙ ap (λ b. cond b (Some place) (get eq-value.it m q)) (same key q) ∙ ap (cond (same_key key q) (Some place)) (get_same m q)
+
+-- a write at the position of a key sets its place
+pub written : {S : Type 0} → (m : HashMap Key ℕ S) (i : ℕ) (key : Key) (place : ℕ) → IsUnique eq-value.it m → HasKeyAt m key (Some i) →
+    (q : Key) → get same_key (with_value_at m i place) q ≡ cond (same_key key q) (Some place) (get same_key m q)
+written m i key place unique has =
+    let e = entry_at m.entries i key (has.key_is i refl) in
+    updated m (with_value_at m i place) key place (updates-with_value_at m i place keys_are unique key e.0 e.1)
 
 -- an insertion keeps the positions of keys
 pub insert_keeps : (es : List (Key × ℕ)) (k q : Key) (v i : ℕ) → slice_get (keys_of es) i ≡ Some q → slice_get (keys_of (insert_entry eq-value.it es k v)) i ≡ Some q

@@ -11,7 +11,6 @@ use crate::key_cache::cache_key;
 use crate::places::{Places, last_near, record_all};
 use crate::row::Key;
 use crate::segment_tables::SegmentTable;
-use indexmap::IndexMap;
 use number_map::GrowingCache;
 use std::alloc::Global;
 use std::collections::hash_map::RandomState;
@@ -34,7 +33,7 @@ impl LastPlaces {
         ensures noted { result.noted ≡ 0 }
     {
         LastPlaces {
-            places: IndexMap::with_hasher(alloc, state),
+            places: Places::new(alloc, state),
             cache: GrowingCache::new(alloc),
             noted: 0,
         }

@@ -12,6 +12,7 @@ mod depths;
 mod facts;
 mod growing;
 mod key_cache;
+mod key_filter;
 mod key_list;
 mod key_places;
 mod last_places;

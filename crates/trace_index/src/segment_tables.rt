@@ -13,7 +13,6 @@ use crate::growing::ended;
 use crate::places::{Places, Positions, last, record, reserve};
 use crate::releases::Releases;
 use crate::row::{IndexRow, Key};
-use indexmap::IndexMap;
 use number_map::PositionCache;
 use segments::SEGMENT;
 use std::alloc::{AllocError, Global};
@@ -49,7 +48,7 @@ impl SegmentTable {
         ensures room { HasRoomAhead result }
     {
         SegmentTable {
-            last: IndexMap::with_hasher(alloc, state),
+            last: Places::new(alloc, state),
             releases: Releases::new(alloc, state, first),
             room: 0,
         }

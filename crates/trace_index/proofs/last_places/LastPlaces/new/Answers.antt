@@ -1,7 +1,0 @@
-use Rattle.std.proofs.Common.{ap}
-use Rattle.std.specs.Map.{lookup}
-use Rattle.trace_index.specs.Links.{same_key}
-use Rattle.trace_index.proofs.last_places.LastPlaces.new.Goals as goal
-
-pub returns-clause-places : goal.returns-clause-places
-returns-clause-places c = λ q. ap (λ es. lookup (same_key q) es) c.with_hasher.ensures.empty
