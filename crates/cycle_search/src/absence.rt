@@ -54,7 +54,7 @@ fn begins_no_cycle(
         search_input,
         distances: &[],
         members,
-        successors: closing_visits(search_input, root),
+        successors: closing_visits(search_input, root, members),
         filter: filter_of(search_input, root),
     };
     let mut none = Kept::new(alloc, 0);

@@ -21,12 +21,24 @@ const VISITS_PER_DISTANCES: usize = 16;
 /// both sides.
 const LEAST_MEMBERS: usize = 4;
 
+/// The least number of binary searches, for each lock of the root, that looking up the last member
+/// takes: two to count the acquirers of the lock, and one or more to find them.
+const LEAST_SEARCHES: usize = 3;
+
 /// Returns the cost, in visited successors, of looking up all members that may close a path of
-/// `root`.
-pub(crate) fn closing_visits(search_input: &SearchInput<'_>, root: u32) -> usize
+/// `root` in a search for cycles of up to `members` members. Returns `usize::MAX` if no path has so
+/// many successors that its last member is worth looking up.
+pub(crate) fn closing_visits(search_input: &SearchInput<'_>, root: u32, members: usize) -> usize
     requires { root < length search_input.now }
 {
     let locks = search_input.table.get(root).held.locks();
+    let least = locks
+        .len()
+        .saturating_mul(LEAST_SEARCHES * VISITS_PER_SEARCH);
+    // With two members, the root alone is the path that lacks its last member.
+    if members == 2 && search_input.successors(root).len() <= least {
+        return usize::MAX;
+    }
     let acquirers = search_input.components.acquirers();
     let searches = acquirers.count(locks).saturating_mul(locks.len());
     searches.saturating_mul(VISITS_PER_SEARCH)

@@ -68,7 +68,7 @@ impl PausedSearch {
             kept: Kept::new(alloc, MAX_CYCLES),
             distances,
             members,
-            successors: closing_visits(search_input, root),
+            successors: closing_visits(search_input, root, members),
             path,
             last: root,
         })

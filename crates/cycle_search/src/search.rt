@@ -126,7 +126,7 @@ pub fn collect_cycles<C: Collector<Cycle>>(
         search_input,
         distances: &distances,
         members,
-        successors: closing_visits(search_input, root),
+        successors: closing_visits(search_input, root, members),
         filter: filter_of(search_input, root),
     };
     match extend(&search, &mut path, root, collector, &mut Unpaused) {
