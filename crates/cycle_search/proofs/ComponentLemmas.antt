@@ -101,7 +101,7 @@ none-from ds bound root components are off = all-none (CycleFrom ds bound root) 
 pub components-ascend : (ds : List Dependency) (components : Components) → length components.numbers.items ≡ length ds → FallAtMost ds components.numbers.items 0 0 →
     AreSuccessorsMarked ds components.numbers.items components.cyclic.items → components.locks.locks.items ≡ map (λ d. d.lock) ds →
     AreLockNumbers ds components.locks.positions.items → AreAcquirers ds components.acquirers →
-    AreComponentThreads ds components.numbers.items components.threads → AreComponents ds components
+    AreComponentThreads ds components.numbers.items components.cyclic.items components.threads → AreComponents ds components
 components-ascend ds components each up marks locked numbered acquirers threads = record {
   each = each;
   ascend = λ m n a b x y c. omega (arith, up m n a b (omega arith) x y c);
@@ -161,7 +161,8 @@ module _ (ds : List Dependency) (bound : ℕ) (numbers : List ℕ) (c : IsCycle 
       let within : at.0 < length numbers = omega (arith, length-map numbers (λ m. thread_in (slice_get ds m))) in
       let a = member-of ds bound numbers c components are at.0 within in
       let is : a.0.thread ≡ thread = same_Some a.0.thread thread (sym (thread-at at.0 a.0 a.1) ∙ at.1) in
-      let own = are.threads.each a.1.0 a.0 a.1.2 in
+      let marked = ap (slice_get components.cyclic.items) (sym (get_or_from_slice_get numbers at.0 a.1.0 0 a.1.1)) ∙ member-cyclic ds bound numbers c components are at.0 within in
+      let own = are.threads.each a.1.0 a.0 a.1.2 marked in
       let here : get_or numbers 0 0 ≡ root = get_or_from_slice_get numbers 0 root 0 first in
       let there : get_or numbers at.0 0 ≡ a.1.0 = get_or_from_slice_get numbers at.0 a.1.0 0 a.1.1 in
       let same : get_or components.numbers.items a.1.0 0 ≡ get_or components.numbers.items root 0 =

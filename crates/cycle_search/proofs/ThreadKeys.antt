@@ -1,9 +1,8 @@
 -- The keys of components and threads.
-use Rattle.std.proofs.Common.{◌≡◌, ℕ, zero, suc, ◌+◌, ◌-◌, ◌<◌, ◌≤◌, inl, inr, eqb, leb, ltb, true, false, List, [], ◌∷◌, ◌++◌, length, map, take, drop, slice_get, get_or, option_map, Some, refl, sym, ap, ◌∙◌, subst, arith}
+use Rattle.std.proofs.Common.{◌≡◌, ℕ, zero, suc, ◌+◌, ◌-◌, ◌<◌, ◌≤◌, inl, inr, eqb, leb, ltb, Bool, true, false, List, [], ◌∷◌, length, map, take, drop, slice_get, get_or, option_map, Some, refl, sym, ap, ◌∙◌, subst, arith}
 use Rattle.std.proofs.lemmas.Option.{same_Some, slice_get_within, slice_get-get_or, slice_get-map, get_or_from_slice_get}
 use Rattle.std.proofs.lemmas.List.{length-map, length-take}
-use Rattle.std.proofs.lemmas.List.Elements.{Contains-append_left, Contains-push}
-use Rattle.std.proofs.lemmas.Bool.{cases_lt, leb-false, ltb-true}
+use Rattle.std.proofs.lemmas.Bool.{cases_lt, false≢true, leb-false, ltb-true}
 use Rattle.std.proofs.lemmas.Bool.Decides.{nat_tests}
 use Rattle.std.proofs.lemmas.Map.Made.{is_member-Decides, length-le_from_is_member}
 use Rattle.std.specs.Cmp.{nat_eq_equiv, unsigned_Decides}
@@ -20,27 +19,36 @@ use Rattle.cycle_search.specs.Acquirers.{key_of}
 use Rattle.cycle_search.specs.declared.component_threads.ComponentThreads.{ComponentThreads}
 use Rattle.cycle_search.specs.ComponentThreads.{AreComponentThreads}
 
--- The keys have those of the first `i` dependencies.
-abbrev pub HasThreadKeys : List Dependency → List ℕ → ℕ → List ℕ → Type 0
-HasThreadKeys ds components i keys =
-    (n : ℕ) (d : Dependency) → n < i → slice_get ds n ≡ Some d →
+-- The keys have those of the cyclic ones of the first `i` dependencies.
+abbrev pub HasThreadKeys : List Dependency → List ℕ → List Bool → ℕ → List ℕ → Type 0
+HasThreadKeys ds components cyclic i keys =
+    (n : ℕ) (d : Dependency) → n < i → slice_get ds n ≡ Some d → slice_get cyclic n ≡ Some true →
     (d.thread < 4294967296) × Contains keys (key_of (get_or components n 0) d.thread)
 
-pub thread_keys-more : (ds : List Dependency) (components : List ℕ) (i : ℕ) (d : Dependency) (keys : List ℕ) → d.thread < 4294967296 → slice_get ds i ≡ Some d → HasThreadKeys ds components i keys →
-    HasThreadKeys ds components (i + 1) (keys ++ key_of (get_or components i 0) d.thread ∷ [])
-thread_keys-more ds components i d keys small at has = λ n e below here. elim (cases_lt n i) [
-  | inl less ↦ let own = has n e less here in (own.0, Contains-append_left keys (key_of (get_or components i 0) d.thread ∷ []) _ own.1)
-  | inr more ↦
+pub thread_keys-more : (ds : List Dependency) (components : List ℕ) (cyclic : List Bool) (i : ℕ) (d : Dependency) (keys more : List ℕ) → d.thread < 4294967296 → slice_get ds i ≡ Some d →
+    ((key : ℕ) → Contains keys key → Contains more key) → Contains more (key_of (get_or components i 0) d.thread) → HasThreadKeys ds components cyclic i keys → HasThreadKeys ds components cyclic (i + 1) more
+thread_keys-more ds components cyclic i d keys more small at kept added has = λ n e below here marked. elim (cases_lt n i) [
+  | inl less ↦ let own = has n e less here marked in (own.0, kept (key_of (get_or components n 0) e.thread) own.1)
+  | inr over ↦
       let same : i ≡ n = omega arith in
       let is : d ≡ e = same_Some d e (sym at ∙ ap (slice_get ds) same ∙ here) in
-      (subst (λ (x : Dependency). x.thread < 4294967296) is small, subst (Contains (keys ++ key_of (get_or components i 0) d.thread ∷ [])) (λ j. key_of (get_or components (same j) 0) (is j).thread) (Contains-push keys (key_of (get_or components i 0) d.thread)))
+      (subst (λ (x : Dependency). x.thread < 4294967296) is small, subst (Contains more) (λ j. key_of (get_or components (same j) 0) (is j).thread) added)
 ]
 
-pub threads-known : (ds : List Dependency) (components : List ℕ) (n : ℕ) (keys sorted : List ℕ) (threads : ComponentThreads) → length ds ≤ n → HasThreadKeys ds components n keys → IsPermutation keys sorted →
-    IsSorted nat_cmp sorted → threads.keys.items ≡ dedup eqb sorted → AreComponentThreads ds components threads
-threads-known ds components n keys sorted threads whole has moved up kept = record {
-  each = λ m d at.
-      let own = has m d (omega (arith, slice_get_within ds m d at)) at in
+pub thread_keys-skip : (ds : List Dependency) (components : List ℕ) (cyclic : List Bool) (i : ℕ) (keys : List ℕ) → slice_get cyclic i ≡ Some false →
+    HasThreadKeys ds components cyclic i keys → HasThreadKeys ds components cyclic (i + 1) keys
+thread_keys-skip ds components cyclic i keys off has = λ n e below here marked. elim (cases_lt n i) [
+  | inl less ↦ has n e less here marked
+  | inr over ↦
+      let same : i ≡ n = omega arith in
+      absurd (false≢true (same_Some false true (sym off ∙ ap (slice_get cyclic) same ∙ marked)))
+]
+
+pub threads-known : (ds : List Dependency) (components : List ℕ) (cyclic : List Bool) (n : ℕ) (keys sorted : List ℕ) (threads : ComponentThreads) → length ds ≤ n → HasThreadKeys ds components cyclic n keys → IsPermutation keys sorted →
+    IsSorted nat_cmp sorted → threads.keys.items ≡ dedup eqb sorted → AreComponentThreads ds components cyclic threads
+threads-known ds components cyclic n keys sorted threads whole has moved up kept = record {
+  each = λ m d at marked.
+      let own = has m d (omega (arith, slice_get_within ds m d at)) at marked in
       (own.0, subst (λ ks. Contains ks (key_of (get_or components m 0) d.thread)) (sym kept) (Contains-dedup_nat sorted _ (Contains-permutation keys sorted _ moved own.1)));
   ascends = subst IsNonDecreasing (sym kept) (non_decreasing_from_sorted (dedup eqb sorted) (sorted_from_strictly_increasing (dedup eqb sorted) (IsStrictlyIncreasing-dedup sorted up)));
 }

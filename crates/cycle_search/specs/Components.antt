@@ -9,7 +9,7 @@ use Rattle.cycle_search.specs.ComponentThreads.{AreComponentThreads}
 
 -- A component number for each dependency, which does not decrease from a dependency to one that
 -- holds its lock, and is less unless that one is cyclic; the lock of each dependency; the threads
--- of each component; and for each lock the dependencies that acquire it.
+-- of the cyclic ones of each component; and for each lock the dependencies that acquire it.
 pub record AreComponents (ds : List Dependency) (components : Components) : Type 0 where
   pub each : length components.numbers.items ≡ length ds
   pub ascend : (m n : ℕ) (a b : Dependency) → slice_get ds m ≡ Some a → slice_get ds n ≡ Some b →
@@ -23,4 +23,5 @@ pub record AreComponents (ds : List Dependency) (components : Components) : Type
   pub locked : components.locks.locks.items ≡ map (λ d. d.lock) ds
   pub numbered : AreLockNumbers ds components.locks.positions.items
   pub acquirers : AreAcquirers ds components.acquirers
-  pub threads : AreComponentThreads ds components.numbers.items components.threads
+  pub threads : AreComponentThreads ds components.numbers.items components.cyclic.items
+      components.threads

@@ -25,10 +25,10 @@ impl Acquirers {
     pub(crate) fn new(alloc: Global, table: &DepTable) -> Result<Acquirers, NoMemory>
         ensures { IfOk result (AreAcquirers (table_dependencies table.now)) }
     {
-        let mut keys = Vec::new(alloc);
+        let mut keys = Vec::with_capacity(alloc, table.len())?;
         for number in 0..table.len() {
             let number = number as u32;
-            keys.push(key(table.get(number).lock, number))?;
+            keys.push_reserved(key(table.get(number).lock, number));
         }
         keys.sort_unstable();
         Ok(Acquirers { keys })

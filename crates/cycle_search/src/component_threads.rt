@@ -1,6 +1,6 @@
 //! The threads of each component, which bound the number of members of a cycle.
 
-ghost use Rattle.std.specs.Prelude.{◌≡◌, ◌≤◌, ℕ, List, length, IfOk};
+ghost use Rattle.std.specs.Prelude.{◌≡◌, ◌≤◌, ℕ, List, length, IfOk, OnOk};
 ghost use Rattle.std.specs.List.{Contains};
 ghost use Rattle.std.specs.List.Sorted.{IsNonDecreasing};
 ghost use Rattle.dependencies.specs.Tables.{table_dependencies};
@@ -11,7 +11,7 @@ use dependencies::DepTable;
 use std::alloc::Global;
 use trace_model::NoMemory;
 
-/// The threads of the dependencies of each component: ascending keys, each once. The key of a
+/// The threads of the cyclic dependencies of each component: ascending keys, each once. The key of a
 /// component and a thread has the component in its upper half and the thread in its lower half.
 #[derive(Drop)]
 pub(crate) struct ComponentThreads {
@@ -19,7 +19,8 @@ pub(crate) struct ComponentThreads {
 }
 
 impl ComponentThreads {
-    /// Lists the threads of the dependencies of `table`, each with its component.
+    /// Lists the threads of the cyclic dependencies of `table`, each with its component. `cyclic`
+    /// marks these dependencies.
     ///
     /// # Errors
     /// `NoMemory` if an allocation fails.
@@ -27,20 +28,26 @@ impl ComponentThreads {
         alloc: Global,
         table: &DepTable,
         components: &[u32],
+        cyclic: &[bool],
     ) -> Result<ComponentThreads, NoMemory>
-        requires { length components.now ≡ length (table_dependencies table.now) }
-        ensures { IfOk result (AreComponentThreads (table_dependencies table.now) components.now) }
+        requires each { length components.now ≡ length (table_dependencies table.now) }
+        requires marked { length cyclic.now ≡ length (table_dependencies table.now) }
+        ensures { IfOk result (AreComponentThreads (table_dependencies table.now)
+            components.now cyclic.now) }
     {
         let mut keys = Vec::new(alloc);
         for number in 0..table.len() {
-            keys.push(key(components[number], table.get(number as u32).thread))?;
+            if cyclic[number] {
+                let thread = table.get(number as u32).thread;
+                add(&mut keys, key(components[number], thread))?;
+            }
         }
         keys.sort_unstable();
         keys.dedup();
         Ok(ComponentThreads { keys })
     }
 
-    /// Returns the number of threads of a component.
+    /// Returns the number of threads of the cyclic dependencies of a component.
     pub(crate) fn count(&self, component: u32) -> usize
         requires { IsNonDecreasing self.now.keys.items }
         ensures { (threads : List ℕ) → AreDistinct threads →
@@ -54,4 +61,15 @@ impl ComponentThreads {
         let end = keys.partition_point(|key| *key <= last);
         end.saturating_sub(start)
     }
+}
+
+/// Adds the key, unless it is the last one: successive dependencies are often of one thread.
+fn add(keys: &mut Vec<u64>, key: u64) -> Result<(), NoMemory>
+    ensures kept { (other : ℕ) → Contains keys.old.items other → Contains keys.new.items other }
+    ensures added { OnOk result (Contains keys.new.items key) }
+{
+    if keys.last() != Some(&key) {
+        keys.push(key)?;
+    }
+    Ok(())
 }

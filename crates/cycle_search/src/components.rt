@@ -28,10 +28,11 @@ use trace_model::NoMemory;
 /// Each dependency has the number of its lock's component. The number never decreases from a
 /// dependency to one that holds its lock, so all members of a cycle have the same number. The
 /// search skips dependencies of other components. It looks up the last member of a cycle in the
-/// index. The members of a cycle have different threads, so it has at most as many members as its
-/// component has threads.
+/// index.
 ///
-/// A dependency is cyclic if it holds a lock of its own component. Each member of a cycle is.
+/// A dependency is cyclic if it holds a lock of its own component. Each member of a cycle is. The
+/// members have different threads, so a cycle has at most as many members as the cyclic
+/// dependencies of its component have threads.
 pub struct Components {
     numbers: Vec<u32>,
     cyclic: Vec<bool>,
@@ -69,7 +70,7 @@ impl Components {
         let found = component_numbers(alloc, table, graph, &locks)?;
         let numbers = topological_or_one(alloc, table, graph, &locks, found)?;
         let cyclic = same_along_edge(alloc, table, graph, &locks, &numbers)?;
-        let threads = ComponentThreads::new(alloc, table, &numbers)?;
+        let threads = ComponentThreads::new(alloc, table, &numbers, &cyclic)?;
         let acquirers = Acquirers::new(alloc, table)?;
         Ok(Components {
             numbers,
@@ -114,8 +115,8 @@ impl Components {
         self.numbers[first as usize] == self.numbers[second as usize]
     }
 
-    /// Returns the number of threads of the component of the dependency `number`. A cycle has at
-    /// most one member of each. Does not allocate.
+    /// Returns the number of threads of the cyclic dependencies of the component of the dependency
+    /// `number`. A cycle has at most one member of each. Does not allocate.
     pub(crate) fn thread_count(&self, number: u32) -> usize
         requires number { number < length self.now.numbers.items }
         requires ascends { IsNonDecreasing self.now.threads.keys.items }
@@ -169,11 +170,11 @@ fn component_numbers(
         ≡ length (table_dependencies table.now)) }
 {
     let components = lock_components(alloc, locks.positions(), graph)?;
-    let mut numbers = Vec::new(alloc);
+    let mut numbers = Vec::with_capacity(alloc, table.len())?;
     for number in 0..table.len() {
         // A lock that no dependency holds has no edges, and is in no component of `components`.
         let component = components.get(locks.position(number as u32) as usize);
-        numbers.push(component.copied().unwrap_or(u32::MAX))?;
+        numbers.push_reserved(component.copied().unwrap_or(u32::MAX));
     }
     Ok(numbers)
 }

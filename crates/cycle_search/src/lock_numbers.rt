@@ -37,16 +37,16 @@ impl LockNumbers {
             (table_dependencies table.now) numbers.positions.items) }
     {
         let mut locks = Vec::with_capacity(alloc, table.len())?;
-        let mut positions = Vec::new(alloc);
-        let mut firsts = Vec::new(alloc);
+        let mut positions = Vec::with_capacity(alloc, table.len())?;
+        let mut firsts = Vec::with_capacity(alloc, table.len())?;
         let mut first_at = vec![in alloc; u32::MAX; graph.lock_count()]?;
         for number in 0..table.len() {
             let number = number as u32;
             let lock = table.get(number).lock;
             let position = graph.position(lock);
-            locks.push(lock)?;
-            positions.push(position)?;
-            firsts.push(first_of(&mut first_at, position, number))?;
+            locks.push_reserved(lock);
+            positions.push_reserved(position);
+            firsts.push_reserved(first_of(&mut first_at, position, number));
         }
         Ok(LockNumbers {
             locks,

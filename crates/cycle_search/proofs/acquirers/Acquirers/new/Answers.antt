@@ -11,13 +11,19 @@ loop-number-preserved c =
     let ds = table_dependencies c.args.table.now in
     let i = c.loop-number.number in
     let same = c.key.ensures ∙ ap (λ (d : Dependency). key_of d.lock i) c.behind-table.view_is in
-    subst (HasKeys ds (i + 1)) (sym (c.in_ok-push.ensures.items ∙ ap (λ (k : ℕ). c.loop-number.keys.items ++ k ∷ []) same))
-    (keys-more ds i c.get.result.now c.loop-number.keys.items c.get.ensures c.loop-number.invariant)
+    let v = c.loop-number.invariant in
+    let added = c.push_reserved.ensures in
+    record {
+      has = subst (HasKeys ds (i + 1)) (sym (added.items ∙ ap (λ (k : ℕ). c.loop-number.keys.items ++ k ∷ []) same))
+          (keys-more ds i c.get.result.now c.loop-number.keys.items c.get.ensures v.has);
+      counted = omega (arith, added.len, v.counted);
+      room = omega (arith, added.capacity, v.room);
+    }
 
 pub returns : goal.returns
 returns c =
     let ds = table_dependencies c.args.table.now in
     let end : length ds ≡ c.loop-number.number = omega arith in
     acquirers-known ds _ c.len-number-end.ensures.few
-    (subst (λ (n : ℕ). HasKeys ds n c.sort_unstable.new.self.items) (sym end) (keys-sorted ds _ _ _ c.sort_unstable.ensures.permutation c.loop-number.invariant))
+    (subst (λ (n : ℕ). HasKeys ds n c.sort_unstable.new.self.items) (sym end) (keys-sorted ds _ _ _ c.sort_unstable.ensures.permutation c.loop-number.invariant.has))
     (IsNonDecreasingBy-from_sort (λ y. y) _ c.sort_unstable.ensures.sorted)

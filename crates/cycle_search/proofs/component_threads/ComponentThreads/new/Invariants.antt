@@ -3,4 +3,4 @@ use Rattle.cycle_search.proofs.ThreadKeys.{HasThreadKeys}
 use Rattle.cycle_search.proofs.component_threads.ComponentThreads.new.Given as goal
 
 abbrev pub invariant-loop-number : goal.invariant-loop-number
-invariant-loop-number l = HasThreadKeys (table_dependencies l.table) l.components l.number l.keys.items
+invariant-loop-number l = HasThreadKeys (table_dependencies l.table) l.components l.cyclic l.number l.keys.items
