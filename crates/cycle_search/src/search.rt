@@ -247,7 +247,12 @@ pub(crate) fn extend<C: Collector<Cycle>, P: Pace>(
         return close(search, path, after, collector, pace);
     }
     for next in nexts {
-        visit(search, path, *next, collector, pace)?;
+        if !pace.visits() {
+            return Err(Halt::Paused(*next - 1));
+        }
+        if may_follow(search, path, *next) {
+            follow(search, path, *next, collector, pace)?;
+        }
     }
     Ok(())
 }
@@ -375,13 +380,14 @@ fn may_follow(search: &CycleSearch<'_>, path: &Path, next: u32) -> bool
         SearchedThrough search.now path.now next numbers → ⊥ }
 {
     let search_input = search.search_input;
+    // Most members that a search visits would be the last ones.
+    if ends_open(search, path, next) {
+        return false;
+    }
     if !same_component(search_input.components, path, next) {
         return false;
     }
     if is_too_far(search, path, next) {
-        return false;
-    }
-    if ends_open(search, path, next) {
         return false;
     }
     fits(search_input, path, next)

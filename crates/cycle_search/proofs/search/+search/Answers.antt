@@ -1,14 +1,15 @@
-use Rattle.std.proofs.Common.{◌≡◌, ◌+◌, ◌<◌, ◌-◌, ◌++◌, ◌∷◌, suc, [], length, ℕ, List, Option, inl, inr, get_or, slice_get, refl, sym, ap, subst, ◌∙◌, arith, append_assoc, true≢false}
+use Rattle.std.proofs.Common.{◌≡◌, ◌+◌, ◌<◌, ◌≤◌, ◌-◌, ◌++◌, ◌∷◌, suc, [], length, ℕ, List, Option, inl, inr, get_or, slice_get, refl, sym, ap, subst, ◌∙◌, arith, append_assoc, true≢false}
 use Rattle.std.proofs.lemmas.Bool.{cases_lt}
 use Rattle.std.proofs.lemmas.Option.{slice_get-get_or, slice_get_within, get_or_from_slice_get}
 use Rattle.std.proofs.lemmas.Grind.{get_or_default_zero}
 use Rattle.std.proofs.lemmas.Result.{err_from_is_err_and}
+use Rattle.arrayvec.specs.ArrayVec.{ArrayVec}
 use Rattle.std.specs.List.{Contains}
 use Rattle.trace_model.specs.Theory.Cycles.{ListBelow}
 use Rattle.trace_model.specs.Theory.Dependencies.{Dependency}
 use Rattle.cycle_search.specs.CycleSearch.{IsPath, AboveFirst, LinksTo, CompletesCycle, CompletesAsLast, CycleOver, CycleUpTo, IsAmong, AreAll, CycleThrough, AreTables, HasTables, SearchedThrough}
 use Rattle.cycle_search.specs.Collecting.{AcceptsAll, TakesSoFar}
-use Rattle.cycle_search.specs.Pausing.{IsListBefore, PausesAfter, PausesAt, position_at}
+use Rattle.cycle_search.specs.Pausing.{CanContinue, IsListBefore, PausesAfter, PausesAt, position_at}
 use Rattle.cycle_search.specs.Acquirers.{IsLeastAbove}
 use Rattle.trace_model.proofs.Lists.{get-push_kept}
 use Rattle.trace_model.proofs.Theory.Unique.{contains_had}
@@ -18,14 +19,14 @@ use Rattle.cycle_search.proofs.Positions.{below-longer, paused-later}
 use Rattle.cycle_search.proofs.Turns.{adds-more, adds-end, above-first, some-more, until-more, closers-begin, closers-more, closers-some, closers-until, closers-end, rejected, closed, one-closed, forth, deeper, deeper-some, deeper-until, full, none-before}
 use Rattle.cycle_search.proofs.Paths.{path-tested}
 use Rattle.cycle_search.proofs.search.+search.Goals as goal
-use Rattle.cycle_search.proofs.search.+search.Goals.{follow-then-is_cycle+in_default, follow-else-is_cycle+then-len-search+in_ok-extend, follow-else-is_cycle+else-len-search}
+use Rattle.cycle_search.proofs.search.+search.Goals.{extend-then-may_follow+in_ok-follow, extend-else-may_follow, follow-then-is_cycle+in_default, follow-else-is_cycle+then-len-search+in_ok-extend, follow-else-is_cycle+else-len-search}
 
 -- A number above the first one.
 above-first-of : (path : List ℕ) (m : ℕ) → get_or path 0 0 < m → AboveFirst path m
 above-first-of path m l first at = omega (arith, l, get_or_from_slice_get path 0 first 0 at)
 
-pub extend-visit-requires : goal.extend-visit-requires
-extend-visit-requires g t c =
+pub extend-follow-requires : goal.extend-follow-requires
+extend-follow-requires g t c =
     let i = c.loop-next.next-index in
     let items = c.successors-nexts.result.now in
     let m = get_or items i 0 in
@@ -37,10 +38,10 @@ extend-visit-requires g t c =
     let accepts = accepts-through g.C.Collector.taking c.args.search.now.search_input.now c.args.search.now.members c.args.path.now.items _ m (λ next. c.args.after < next)
     (CycleOver c.args.search.now.search_input.now c.args.search.now.members c.args.path.now.items (IsAmong items i)) c.args.collector.now c.loop-next.collector
     (n.above m here) same c.loop-next.invariant.added c.requires.accepts in
-    (λ κs lives. (omega (arith, shorter), (lives.0, (lives.1.0, (lives.1.1, (subst (λ p. IsPath c.args.search.now.search_input.now p) same c.requires.path, (subst (λ (p : List ℕ). length p < c.args.search.now.members) same c.requires.room, (c.requires.members, (subst (λ p. HasTables c.args.search.now p) same c.requires.tables, (n.known m here, (subst (λ (p : List ℕ). get_or p 0 0 < m) same over, (subst (λ p. LinksTo c.args.search.now.search_input.now p m) same (n.linked m here), accepts))))))))))))
+    (λ κs lives. (omega (arith, shorter), (lives.0, (lives.1.0, (lives.1.1, (subst (λ p. IsPath c.args.search.now.search_input.now p) same c.requires.path, (subst (λ (p : List ℕ). length p < c.args.search.now.members) same c.requires.room, (c.requires.members, (subst (λ p. HasTables c.args.search.now p) same c.requires.tables, (n.known m here, (subst (λ (p : List ℕ). get_or p 0 0 < m) same over, (subst (λ p. LinksTo c.args.search.now.search_input.now p m) same (n.linked m here), (c.may_follow.ensures.follows c.if-may_follow.true, accepts)))))))))))))
 
-pub extend-returns-in_err-visit-clause-all : goal.extend-returns-in_err-visit-clause-all
-extend-returns-in_err-visit-clause-all g t c =
+pub extend-returns-in_err-follow-clause-all : goal.extend-returns-in_err-follow-clause-all
+extend-returns-in_err-follow-clause-all g t c =
     let taking = g.C.Collector.taking in
     let ds = c.args.search.now.search_input.now in
     let bound = c.args.search.now.members in
@@ -54,28 +55,58 @@ extend-returns-in_err-visit-clause-all g t c =
     let at = slice_get-get_or items i 0 c.loop-next-test.true in
     let p = err_from_is_err_and c.from_residual.result c.from_residual.ensures.1 in
     ended-after taking (CycleOver ds bound path (IsAmong items i)) (CycleThrough ds bound path m) (CycleOver ds bound path (λ n. after < n)) c.args.collector.now c.loop-next.collector
-    c.visit.new.collector c.visit.new.path.items _ p.0 _ p.1 (sym p.2)
+    c.follow.new.collector c.follow.new.path.items _ p.0 _ p.1 (sym p.2)
     (some-more ds bound path after items begun are i m at)
     (λ last is.
-    let (can, (rest, e)) = paused-last (PausesAt c.args.search.now c.loop-next.path m c.visit.new.path) _ last is c.in_err-visit.ensures.paused in
-    until-more ds bound path after items begun are i m at (position_at c.visit.new.path.items last) rest (e ∙ ap (λ (q : List ℕ). q ++ m ∷ rest) c.loop-next.invariant.same))
+    let (can, (rest, e)) = paused-last (PausesAt c.args.search.now c.loop-next.path m c.follow.new.path) _ last is c.in_err-follow.ensures.paused in
+    until-more ds bound path after items begun are i m at (position_at c.follow.new.path.items last) rest (e ∙ ap (λ (q : List ℕ). q ++ m ∷ rest) c.loop-next.invariant.same))
     c.loop-next.invariant.added
-    (until-for taking (λ q. CycleThrough ds bound q m) c.loop-next.path.items path c.loop-next.collector c.visit.new.collector c.visit.new.path.items c.in_err-visit.field-0.0
-    c.loop-next.invariant.same c.in_err-visit.ensures.all)
+    (until-for taking (λ q. CycleThrough ds bound q m) c.loop-next.path.items path c.loop-next.collector c.follow.new.collector c.follow.new.path.items c.in_err-follow.field-0.0
+    c.loop-next.invariant.same c.in_err-follow.ensures.all)
 
-pub extend-returns-in_err-visit-clause-paused : goal.extend-returns-in_err-visit-clause-paused
-extend-returns-in_err-visit-clause-paused g t c =
+pub extend-returns-in_err-follow-clause-paused : goal.extend-returns-in_err-follow-clause-paused
+extend-returns-in_err-follow-clause-paused g t c =
     let items = c.successors-nexts.result.now in
     let i = c.loop-next.next-index in
     let m = get_or items i 0 in
     let p = err_from_is_err_and c.from_residual.result c.from_residual.ensures.1 in
-    paused-as (PausesAfter c.args.search.now c.args.path.now c.args.after c.visit.new.path) _ p.0 _ p.1 (sym p.2)
+    paused-as (PausesAfter c.args.search.now c.args.path.now c.args.after c.follow.new.path) _ p.0 _ p.1 (sym p.2)
     (λ last is.
-    let (can, (rest, e)) = paused-last (PausesAt c.args.search.now c.loop-next.path m c.visit.new.path) _ last is c.in_err-visit.ensures.paused in
+    let (can, (rest, e)) = paused-last (PausesAt c.args.search.now c.loop-next.path m c.follow.new.path) _ last is c.in_err-follow.ensures.paused in
     (m, c.successors-nexts.ensures.above m (i, c.loop-next-test.true, get_or_default_zero items i m c.loop-next-test.true), (can, (rest, e ∙ ap (λ (q : List ℕ). q ++ m ∷ rest) c.loop-next.invariant.same))))
 
-pub extend-returns-in_err-visit-clause-later : goal.extend-returns-in_err-visit-clause-later
-extend-returns-in_err-visit-clause-later g t c =
+pub extend-returns-in_err-follow-clause-later : goal.extend-returns-in_err-follow-clause-later
+extend-returns-in_err-follow-clause-later g t c =
+    let path = c.args.path.now.items in
+    let after = c.args.after in
+    let items = c.successors-nexts.result.now in
+    let i = c.loop-next.next-index in
+    let m = get_or items i 0 in
+    let p = err_from_is_err_and c.from_residual.result c.from_residual.ensures.1 in
+    paused-as (λ last. (g.P.Pace.pauses c.args.pace.now → ⊥) → ListBelow (position_at path after) (position_at c.follow.new.path.items last)) _ p.0 _ p.1 (sym p.2)
+    (λ last is goes.
+    let (can, (rest, e)) = paused-last (PausesAt c.args.search.now c.loop-next.path m c.follow.new.path) _ last is c.in_err-follow.ensures.paused in
+    let own = paused-last (λ last. ListBelow (c.loop-next.path.items ++ m ∷ []) (position_at c.follow.new.path.items last)) _ last is c.in_err-follow.ensures.later in
+    paused-later path after m (position_at c.follow.new.path.items last) rest (c.successors-nexts.ensures.above m (i, c.loop-next-test.true, get_or_default_zero items i m c.loop-next-test.true))
+    (e ∙ ap (λ (q : List ℕ). q ++ m ∷ rest) c.loop-next.invariant.same)
+    (λ next. subst (λ (q : List ℕ). ListBelow (q ++ m ∷ []) (position_at c.follow.new.path.items last)) c.loop-next.invariant.same own))
+
+-- The position of a search that is paused at the number after the path.
+position-of : (path same : List ℕ) (m : ℕ) → 0 < m → same ≡ path → position_at same (m - 1) ≡ path ++ m ∷ []
+position-of path same m some is = let n : suc (m - 1) ≡ m = omega (arith, some) in λ i. is i ++ n i ∷ []
+
+pub extend-overflow_sub-result : goal.extend-overflow_sub-result
+extend-overflow_sub-result g t c =
+    let items = c.successors-nexts.result.now in
+    let i = c.loop-next.next-index in
+    let m = get_or items i 0 in
+    omega (arith, c.successors-nexts.ensures.above m (i, c.loop-next-test.true, get_or_default_zero items i m c.loop-next-test.true))
+
+pub extend-returns-then-not-visits-clause-all : goal.extend-returns-then-not-visits-clause-all
+extend-returns-then-not-visits-clause-all g t c =
+    let taking = g.C.Collector.taking in
+    let ds = c.args.search.now.search_input.now in
+    let bound = c.args.search.now.members in
     let path = c.args.path.now.items in
     let after = c.args.after in
     let items = c.successors-nexts.result.now in
@@ -83,13 +114,43 @@ extend-returns-in_err-visit-clause-later g t c =
     let m = get_or items i 0 in
     let are = c.successors-nexts.ensures in
     let at = slice_get-get_or items i 0 c.loop-next-test.true in
-    let p = err_from_is_err_and c.from_residual.result c.from_residual.ensures.1 in
-    paused-as (λ last. (g.P.Pace.pauses c.args.pace.now → ⊥) → ListBelow (position_at path after) (position_at c.visit.new.path.items last)) _ p.0 _ p.1 (sym p.2)
-    (λ last is goes.
-    let (can, (rest, e)) = paused-last (PausesAt c.args.search.now c.loop-next.path m c.visit.new.path) _ last is c.in_err-visit.ensures.paused in
-    let own = paused-last (λ last. (g.P.Pace.pauses c.loop-next.pace → ⊥) → ListBelow (c.loop-next.path.items ++ m ∷ []) (position_at c.visit.new.path.items last)) _ last is c.in_err-visit.ensures.later in
-    paused-later path after m (position_at c.visit.new.path.items last) rest (are.above m (i, c.loop-next-test.true, get_or_default_zero items i m c.loop-next-test.true))
-    (e ∙ ap (λ (q : List ℕ). q ++ m ∷ rest) c.loop-next.invariant.same)
+    let over = are.above m (i, c.loop-next-test.true, get_or_default_zero items i m c.loop-next-test.true) in
+    let position = position_at c.loop-next.path.items (m - 1) in
+    let is = position-of path c.loop-next.path.items m (omega (arith, over)) c.loop-next.invariant.same in
+    takes-after taking (CycleOver ds bound path (IsAmong items i)) (IsListBefore (CycleThrough ds bound path m) position) (IsListBefore (CycleOver ds bound path (λ n. after < n)) position)
+    c.args.collector.now c.loop-next.collector c.loop-next.collector
+    (until-more ds bound path after items c.requires.path.begun are i m at position [] is)
+    c.loop-next.invariant.added
+    (takes-none taking (IsListBefore (CycleThrough ds bound path m) position) c.loop-next.collector
+    (subst (λ z. AreAll (IsListBefore (CycleThrough ds bound path m) z) []) (sym is) (none-before ds bound path m)))
+
+pub extend-returns-then-not-visits-clause-paused : goal.extend-returns-then-not-visits-clause-paused
+extend-returns-then-not-visits-clause-paused g t c =
+    let path = c.args.path.now.items in
+    let items = c.successors-nexts.result.now in
+    let i = c.loop-next.next-index in
+    let m = get_or items i 0 in
+    let same = sym c.loop-next.invariant.same in
+    let over = c.successors-nexts.ensures.above m (i, c.loop-next-test.true, get_or_default_zero items i m c.loop-next-test.true) in
+    let can : CanContinue c.args.search.now c.loop-next.path.items (m - 1) = record {
+      path = subst (λ p. IsPath c.args.search.now.search_input.now p) same c.requires.path;
+      room = subst (λ (p : List ℕ). length p < c.args.search.now.members) same c.requires.room;
+      above = subst (λ (p : List ℕ). get_or p 0 0 ≤ m - 1) same (omega (arith, c.requires.above, over));
+    } in
+    (m, over, (can, ([], position-of path c.loop-next.path.items m (omega (arith, over)) c.loop-next.invariant.same)))
+
+pub extend-returns-then-not-visits-clause-later : goal.extend-returns-then-not-visits-clause-later
+extend-returns-then-not-visits-clause-later g t c = λ goes.
+    let path = c.args.path.now.items in
+    let after = c.args.after in
+    let items = c.successors-nexts.result.now in
+    let i = c.loop-next.next-index in
+    let m = get_or items i 0 in
+    let are = c.successors-nexts.ensures in
+    let at = slice_get-get_or items i 0 c.loop-next-test.true in
+    let over = are.above m (i, c.loop-next-test.true, get_or_default_zero items i m c.loop-next-test.true) in
+    paused-later path after m (position_at c.loop-next.path.items (m - 1)) [] over
+    (position-of path c.loop-next.path.items m (omega (arith, over)) c.loop-next.invariant.same)
     (λ next. elim (cases_lt 0 i) [
       | inl l ↦ absurd (omega (
         arith,
@@ -99,9 +160,15 @@ extend-returns-in_err-visit-clause-later g t c =
       ))
       | inr l ↦
           let zero' : i ≡ 0 = omega (arith, l) in
-          subst (λ (q : List ℕ). ListBelow (q ++ m ∷ []) (position_at c.visit.new.path.items last)) c.loop-next.invariant.same
-          (own (λ pauses. goes (subst (λ pace. g.P.Pace.pauses pace) (c.loop-next.invariant.paced zero') pauses)))
-    ]))
+          absurd (goes (subst (λ pace. g.P.Pace.pauses pace) (c.loop-next.invariant.paced zero') (c.visits.ensures c.if-not-visits.true)))
+    ])
+
+pub extend-may_follow-requires-clause-known : goal.extend-may_follow-requires-clause-known
+extend-may_follow-requires-clause-known g t c =
+    let items = c.successors-nexts.result.now in
+    let i = c.loop-next.next-index in
+    let m = get_or items i 0 in
+    c.successors-nexts.ensures.known m (i, c.loop-next-test.true, get_or_default_zero items i m c.loop-next-test.true)
 
 pub extend-loop-next-init : goal.extend-loop-next-init
 extend-loop-next-init g t c =
@@ -121,15 +188,25 @@ extend-loop-next-preserved g t c =
     let items = c.successors-nexts.result.now in
     let i = c.loop-next.next-index in
     let m = get_or items i 0 in
-    record {
-      same = c.in_ok-visit.ensures.path ∙ c.loop-next.invariant.same;
-      paced = λ first. absurd (omega (arith, first));
-      added = takes-after taking (CycleOver ds bound path (IsAmong items i)) (CycleThrough ds bound path m) (CycleOver ds bound path (IsAmong items (i + 1)))
-          c.args.collector.now c.loop-next.collector c.visit.new.collector
-          (adds-more ds bound path c.args.after items c.requires.path.begun c.successors-nexts.ensures i m (slice_get-get_or items i 0 c.loop-next-test.true))
-          c.loop-next.invariant.added
-          (subst (λ p. TakesSoFar taking (CycleThrough ds bound p m) c.loop-next.collector c.visit.new.collector) c.loop-next.invariant.same c.in_ok-visit.ensures.all);
-    }
+    let same = c.loop-next.invariant.same in
+    let more = takes-after taking (CycleOver ds bound path (IsAmong items i)) (CycleThrough ds bound path m) (CycleOver ds bound path (IsAmong items (i + 1))) c.args.collector.now c.loop-next.collector in
+    let adds = adds-more ds bound path c.args.after items c.requires.path.begun c.successors-nexts.ensures i m (slice_get-get_or items i 0 c.loop-next-test.true) in
+    elim c.if-may_follow.branch [
+      | extend-then-may_follow+in_ok-follow w ↦ record {
+        same = ap (λ (v : ArrayVec ℕ). v.items) w.path-is ∙ w.in_ok-follow.ensures.path ∙ same;
+        paced = λ first. absurd (omega (arith, first));
+        added = rw w.collector-is (more w.follow.new.collector adds c.loop-next.invariant.added
+            (subst (λ p. TakesSoFar taking (CycleThrough ds bound p m) c.loop-next.collector w.follow.new.collector) same w.in_ok-follow.ensures.all));
+      }
+      | extend-else-may_follow w ↦ record {
+        same = ap (λ (v : ArrayVec ℕ). v.items) w.path-is ∙ same;
+        paced = λ first. absurd (omega (arith, first));
+        added = rw w.collector-is (more c.loop-next.collector adds c.loop-next.invariant.added
+            (subst (λ p. TakesSoFar taking (CycleThrough ds bound p m) c.loop-next.collector c.loop-next.collector) same
+            (takes-none taking (CycleThrough ds bound c.loop-next.path.items m) c.loop-next.collector
+            (all-none (CycleThrough ds bound c.loop-next.path.items m) (c.may_follow.ensures.none w.if-may_follow.false)))));
+      }
+    ]
 
 pub extend-returns-clause-all : goal.extend-returns-clause-all
 extend-returns-clause-all g t c =
