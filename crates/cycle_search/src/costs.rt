@@ -6,6 +6,7 @@ ghost use Rattle.std.specs.List.{Contains};
 ghost use Rattle.cycle_search.specs.CycleSearch.{IsPath};
 
 use crate::SearchInput;
+use crate::ascending::above;
 use crate::search::{Path, successors};
 
 /// The number of visited successors that cost as much as one binary search for the acquirers of a
@@ -21,9 +22,9 @@ const VISITS_PER_DISTANCES: usize = 16;
 /// both sides.
 const LEAST_MEMBERS: usize = 4;
 
-/// The least number of binary searches, for each lock of the root, that looking up the last member
-/// takes: two to count the acquirers of the lock, and one or more to find them.
-const LEAST_SEARCHES: usize = 3;
+/// The least cost, in visited successors for each lock of the root, of looking up the last member:
+/// two binary searches count the acquirers of the lock, and one or more find them.
+const LEAST_VISITS: usize = 3 * VISITS_PER_SEARCH;
 
 /// Returns the cost, in visited successors, of looking up all members that may close a path of
 /// `root` in a search for cycles of up to `members` members. Returns `usize::MAX` if no path has so
@@ -32,11 +33,9 @@ pub(crate) fn closing_visits(search_input: &SearchInput<'_>, root: u32, members:
     requires { root < length search_input.now }
 {
     let locks = search_input.table.get(root).held.locks();
-    let least = locks
-        .len()
-        .saturating_mul(LEAST_SEARCHES * VISITS_PER_SEARCH);
+    let least = LEAST_VISITS.saturating_mul(locks.len());
     // With two members, the root alone is the path that lacks its last member.
-    if members == 2 && search_input.successors(root).len() <= least {
+    if members == 2 && above(search_input.successors(root), root).len() <= least {
         return usize::MAX;
     }
     let acquirers = search_input.components.acquirers();

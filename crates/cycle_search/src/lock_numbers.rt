@@ -64,6 +64,13 @@ impl LockNumbers {
         self.locks[number as usize]
     }
 
+    /// Returns the lock that each dependency acquires.
+    pub(crate) fn locks(&self) -> &[u32]
+        ensures { result.now ≡ self.now.locks.items }
+    {
+        self.locks.as_slice()
+    }
+
     /// Returns the position in the graph of the lock of each dependency.
     pub(crate) fn positions(&self) -> &[u32] {
         self.positions.as_slice()

@@ -4,7 +4,7 @@
 //! acquires. A path grows by one successor at a time. It is a cycle if its first member holds the
 //! lock that its last member acquires.
 
-ghost use Rattle.std.specs.Prelude.{◌≡◌, ◌<◌, ◌≤◌, ◌↔◌, ◌+◌, ◌++◌, ◌∷◌, [], ℕ, List, false, slice_index, length, IsTrue, IfOk, OnOk, Err};
+ghost use Rattle.std.specs.Prelude.{◌≡◌, ◌<◌, ◌≤◌, ◌↔◌, ◌+◌, ◌++◌, ◌∷◌, [], ℕ, List, false, slice_index, length, map, IsTrue, IfOk, OnOk, Err};
 ghost use Rattle.trace_model.specs.declared.limits.TheConstants.{MAX_CYCLES};
 ghost use Rattle.trace_model.specs.Theory.Cycles.{AreCyclesFrom, ListBelow};
 ghost use Rattle.guards.specs.Compatible.{IsCompatible};
@@ -242,15 +242,17 @@ pub(crate) fn extend<C: Collector<Cycle>, P: Pace>(
     ensures pauses { IfPaused result (λ last. (some : P) × P.pauses some) }
 {
     let nexts = successors(search.search_input, path, after);
+    let is_last = path.len() + 1 == search.members;
     // The path may have many successors although few dependencies close it.
-    if path.len() + 1 == search.members && search.successors < nexts.len() {
+    if is_last && search.successors < nexts.len() {
         return close(search, path, after, collector, pace);
     }
+    let locks = search.search_input.locks();
     for next in nexts {
         if !pace.visits() {
             return Err(Halt::Paused(*next - 1));
         }
-        if may_follow(search, path, *next) {
+        if !is_excluded(search, path, *next, is_last, locks) && may_follow(search, path, *next) {
             follow(search, path, *next, collector, pace)?;
         }
     }
@@ -368,6 +370,30 @@ fn follow<C: Collector<Cycle>, P: Pace>(
     Ok(())
 }
 
+/// Returns whether `next` would be the last member that the bound allows, and the filter shows that
+/// it does not close the path. Most members that a search visits are such ones.
+///
+/// The caller passes whether the next member would be the last one, and the lock that each
+/// dependency acquires.
+#[inline(always)]
+fn is_excluded(
+    search: &CycleSearch<'_>,
+    _path: &Path,
+    next: u32,
+    is_last: bool,
+    locks: &[u32],
+) -> bool
+    requires path { IsPath search.now.search_input.now _path.now.items }
+    requires next { next < length search.now.search_input.now }
+    requires tables { HasTables search.now _path.now.items }
+    requires last { IsTrue is_last → search.now.members ≤ length _path.now.items + 1 }
+    requires locks { locks.now ≡ map (λ d. d.lock) search.now.search_input.now }
+    ensures { IsTrue result → (numbers : List ℕ) →
+        SearchedThrough search.now _path.now next numbers → ⊥ }
+{
+    is_last && search.filter.excludes(locks[next as usize])
+}
+
 /// Returns whether a cycle of the search may begin with the path followed by `next`.
 #[inline(always)]
 fn may_follow(search: &CycleSearch<'_>, path: &Path, next: u32) -> bool
@@ -380,7 +406,6 @@ fn may_follow(search: &CycleSearch<'_>, path: &Path, next: u32) -> bool
         SearchedThrough search.now path.now next numbers → ⊥ }
 {
     let search_input = search.search_input;
-    // Most members that a search visits would be the last ones.
     if ends_open(search, path, next) {
         return false;
     }

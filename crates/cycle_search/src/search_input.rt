@@ -30,7 +30,7 @@ impl<'a> Model for SearchInput<'a> {
 }
 
 impl<'a> SearchInput<'a> {
-    ghost use Rattle.std.specs.Prelude.{◌≡◌, ◌<◌, Some, length, slice_get};
+    ghost use Rattle.std.specs.Prelude.{◌≡◌, ◌<◌, Some, length, map, slice_get};
     ghost use Rattle.trace_model.specs.Theory.Dependencies.{Dependency};
     ghost use Rattle.dependencies.specs.Tables.{table_dependencies};
     ghost use Rattle.lock_graph.specs.Graph.{HasGraphOf};
@@ -64,6 +64,13 @@ impl<'a> SearchInput<'a> {
         ensures { (d : Dependency) → slice_get self.now number ≡ Some d → result ≡ d.lock }
     {
         self.components.locks().lock(number)
+    }
+
+    /// Returns the lock that each dependency acquires. Does not allocate.
+    pub(crate) fn locks(&self) -> &'a [u32]
+        ensures { result.now ≡ map (λ d. d.lock) self.now }
+    {
+        self.components.locks().locks()
     }
 
     /// Returns the dependencies that hold the lock which the dependency `number` acquires,

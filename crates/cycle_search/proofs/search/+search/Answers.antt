@@ -19,7 +19,7 @@ use Rattle.cycle_search.proofs.Positions.{below-longer, paused-later}
 use Rattle.cycle_search.proofs.Turns.{adds-more, adds-end, above-first, some-more, until-more, closers-begin, closers-more, closers-some, closers-until, closers-end, rejected, closed, one-closed, forth, deeper, deeper-some, deeper-until, full, none-before}
 use Rattle.cycle_search.proofs.Paths.{path-tested}
 use Rattle.cycle_search.proofs.search.+search.Goals as goal
-use Rattle.cycle_search.proofs.search.+search.Goals.{extend-then-may_follow+in_ok-follow, extend-else-may_follow, follow-then-is_cycle+in_default, follow-else-is_cycle+then-len-search+in_ok-extend, follow-else-is_cycle+else-len-search}
+use Rattle.cycle_search.proofs.search.+search.Goals.{extend-then-not-is_excluded+then-may_follow+in_ok-follow, extend-else-not-is_excluded, extend-else-not-is_excluded-via-then-not-is_excluded+else-may_follow, extend-else-not-is_excluded-via-else-not-is_excluded, follow-then-is_cycle+in_default, follow-else-is_cycle+then-len-search+in_ok-extend, follow-else-is_cycle+else-len-search}
 
 -- A number above the first one.
 above-first-of : (path : List ℕ) (m : ℕ) → get_or path 0 0 < m → AboveFirst path m
@@ -163,6 +163,13 @@ extend-returns-then-not-visits-clause-later g t c = λ goes.
           absurd (goes (subst (λ pace. g.P.Pace.pauses pace) (c.loop-next.invariant.paced zero') (c.visits.ensures c.if-not-visits.true)))
     ])
 
+pub extend-is_excluded-requires-clause-next : goal.extend-is_excluded-requires-clause-next
+extend-is_excluded-requires-clause-next g t c =
+    let items = c.successors-nexts.result.now in
+    let i = c.loop-next.next-index in
+    let m = get_or items i 0 in
+    c.successors-nexts.ensures.known m (i, c.loop-next-test.true, get_or_default_zero items i m c.loop-next-test.true)
+
 pub extend-may_follow-requires-clause-known : goal.extend-may_follow-requires-clause-known
 extend-may_follow-requires-clause-known g t c =
     let items = c.successors-nexts.result.now in
@@ -191,21 +198,26 @@ extend-loop-next-preserved g t c =
     let same = c.loop-next.invariant.same in
     let more = takes-after taking (CycleOver ds bound path (IsAmong items i)) (CycleThrough ds bound path m) (CycleOver ds bound path (IsAmong items (i + 1))) c.args.collector.now c.loop-next.collector in
     let adds = adds-more ds bound path c.args.after items c.requires.path.begun c.successors-nexts.ensures i m (slice_get-get_or items i 0 c.loop-next-test.true) in
-    elim c.if-may_follow.branch [
-      | extend-then-may_follow+in_ok-follow w ↦ record {
+    elim c.if-not-is_excluded.branch [
+      | extend-then-not-is_excluded+then-may_follow+in_ok-follow w ↦ record {
         same = ap (λ (v : ArrayVec ℕ). v.items) w.path-is ∙ w.in_ok-follow.ensures.path ∙ same;
         paced = λ first. absurd (omega (arith, first));
         added = rw w.collector-is (more w.follow.new.collector adds c.loop-next.invariant.added
             (subst (λ p. TakesSoFar taking (CycleThrough ds bound p m) c.loop-next.collector w.follow.new.collector) same w.in_ok-follow.ensures.all));
       }
-      | extend-else-may_follow w ↦ record {
-        same = ap (λ (v : ArrayVec ℕ). v.items) w.path-is ∙ same;
-        paced = λ first. absurd (omega (arith, first));
-        added = rw w.collector-is (more c.loop-next.collector adds c.loop-next.invariant.added
-            (subst (λ p. TakesSoFar taking (CycleThrough ds bound p m) c.loop-next.collector c.loop-next.collector) same
-            (takes-none taking (CycleThrough ds bound c.loop-next.path.items m) c.loop-next.collector
-            (all-none (CycleThrough ds bound c.loop-next.path.items m) (c.may_follow.ensures.none w.if-may_follow.false)))));
-      }
+      | extend-else-not-is_excluded w ↦
+          let none : (numbers : List ℕ) → CycleThrough ds bound c.loop-next.path.items m numbers → ⊥ = elim w.else-not-is_excluded.branch [
+            | extend-else-not-is_excluded-via-then-not-is_excluded+else-may_follow u ↦ u.may_follow.ensures.none u.if-may_follow.false
+            | extend-else-not-is_excluded-via-else-not-is_excluded u ↦ c.is_excluded.ensures u.if-not-is_excluded.false
+          ] in
+          record {
+            same = ap (λ (v : ArrayVec ℕ). v.items) w.path-is ∙ same;
+            paced = λ first. absurd (omega (arith, first));
+            added = rw w.collector-is (more c.loop-next.collector adds c.loop-next.invariant.added
+                (subst (λ p. TakesSoFar taking (CycleThrough ds bound p m) c.loop-next.collector c.loop-next.collector) same
+                (takes-none taking (CycleThrough ds bound c.loop-next.path.items m) c.loop-next.collector
+                (all-none (CycleThrough ds bound c.loop-next.path.items m) none))));
+          }
     ]
 
 pub extend-returns-clause-all : goal.extend-returns-clause-all
