@@ -5,7 +5,7 @@ ghost use Rattle.trace_model.specs.Theory.Cycles.{IsCycle};
 ghost use Rattle.cycle_search.specs.CycleSearch.{CycleFrom};
 
 use crate::SearchInput;
-use crate::costs::closing_visits;
+use crate::costs::closing_visits_after;
 use crate::kept::Kept;
 use crate::pace::Visits;
 use crate::search::{CycleSearch, Path, extend, filter_of, most_members};
@@ -54,7 +54,7 @@ fn begins_no_cycle(
         search_input,
         distances: &[],
         members,
-        successors: closing_visits(search_input, root, members),
+        successors: closing_visits_after(search_input, root, members),
         filter: filter_of(search_input, root),
     };
     let mut none = Kept::new(alloc, 0);

@@ -6,8 +6,7 @@ ghost use Rattle.std.specs.List.{Contains};
 ghost use Rattle.cycle_search.specs.CycleSearch.{IsPath};
 
 use crate::SearchInput;
-use crate::ascending::above;
-use crate::search::{Path, successors};
+use crate::search::{CycleSearch, Path, successors};
 
 /// The number of visited successors that cost as much as one binary search for the acquirers of a
 /// lock.
@@ -26,18 +25,41 @@ const LEAST_MEMBERS: usize = 4;
 /// two binary searches count the acquirers of the lock, and one or more find them.
 const LEAST_VISITS: usize = 3 * VISITS_PER_SEARCH;
 
+/// Returns whether looking up the last member of a path costs less than visiting its `successors`.
+pub(crate) fn is_worth_closing(search: &CycleSearch<'_>, path: &Path, successors: usize) -> bool
+    requires { IsPath search.now.search_input.now path.now.items }
+{
+    if path.len() > 1 {
+        return search.successors < successors;
+    }
+    // A root comes here once, so the cost is estimated only if it may be worth it.
+    let search_input = search.search_input;
+    let locks = search_input.table.get(path[0]).held.locks();
+    LEAST_VISITS.saturating_mul(locks.len()) < successors
+        && closing_visits(search_input, path[0]) < successors
+}
+
 /// Returns the cost, in visited successors, of looking up all members that may close a path of
-/// `root` in a search for cycles of up to `members` members. Returns `usize::MAX` if no path has so
-/// many successors that its last member is worth looking up.
-pub(crate) fn closing_visits(search_input: &SearchInput<'_>, root: u32, members: usize) -> usize
+/// `root` and other members. Returns 0 if a cycle of up to `members` members has no such path.
+pub(crate) fn closing_visits_after(
+    search_input: &SearchInput<'_>,
+    root: u32,
+    members: usize,
+) -> usize
+    requires { root < length search_input.now }
+{
+    if members < 3 {
+        return 0;
+    }
+    closing_visits(search_input, root)
+}
+
+/// Returns the cost, in visited successors, of looking up all members that may close a path of
+/// `root`.
+fn closing_visits(search_input: &SearchInput<'_>, root: u32) -> usize
     requires { root < length search_input.now }
 {
     let locks = search_input.table.get(root).held.locks();
-    let least = LEAST_VISITS.saturating_mul(locks.len());
-    // With two members, the root alone is the path that lacks its last member.
-    if members == 2 && above(search_input.successors(root), root).len() <= least {
-        return usize::MAX;
-    }
     let acquirers = search_input.components.acquirers();
     let searches = acquirers.count(locks).saturating_mul(locks.len());
     searches.saturating_mul(VISITS_PER_SEARCH)

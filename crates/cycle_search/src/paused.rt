@@ -5,7 +5,7 @@ ghost use Rattle.trace_model.specs.declared.limits.TheConstants.{MAX_CYCLES};
 ghost use Rattle.cycle_search.specs.CycleSearch.{MoreThan, CycleFrom};
 ghost use Rattle.cycle_search.specs.Pausing.{IsSearchOf, GoesOnTo};
 
-use crate::costs::closing_visits;
+use crate::costs::closing_visits_after;
 use crate::kept::Kept;
 use crate::pace::{Halt, Visits};
 use crate::search::{CycleSearch, Path, distances_of, extend_from, filter_of, most_members};
@@ -68,7 +68,7 @@ impl PausedSearch {
             kept: Kept::new(alloc, MAX_CYCLES),
             distances,
             members,
-            successors: closing_visits(search_input, root, members),
+            successors: closing_visits_after(search_input, root, members),
             path,
             last: root,
         })

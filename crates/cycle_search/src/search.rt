@@ -17,7 +17,7 @@ ghost use Rattle.cycle_search.specs.Pausing.{CanContinue, IfPaused, PausesAfter,
 
 use crate::ascending::above;
 use crate::collector::Collector;
-use crate::costs::{closing_visits, is_long};
+use crate::costs::{closing_visits_after, is_long, is_worth_closing};
 use crate::distances::distances_to;
 use crate::kept::Kept;
 use crate::lock_filter::LockFilter;
@@ -40,8 +40,8 @@ pub(crate) struct CycleSearch<'a> {
     pub(crate) distances: &'a [u32],
     /// The maximum number of members of a cycle.
     pub(crate) members: usize,
-    /// If the last member is missing and the path has more successors than this, the search looks
-    /// up the last member by the locks that it acquires.
+    /// If the last member is missing and a path of two or more members has more successors than
+    /// this, the search looks up the last member by the locks that it acquires.
     pub(crate) successors: usize,
     /// The filter of the locks that the first member of a path holds.
     pub(crate) filter: LockFilter,
@@ -126,7 +126,7 @@ pub fn collect_cycles<C: Collector<Cycle>>(
         search_input,
         distances: &distances,
         members,
-        successors: closing_visits(search_input, root, members),
+        successors: closing_visits_after(search_input, root, members),
         filter: filter_of(search_input, root),
     };
     match extend(&search, &mut path, root, collector, &mut Unpaused) {
@@ -244,7 +244,7 @@ pub(crate) fn extend<C: Collector<Cycle>, P: Pace>(
     let nexts = successors(search.search_input, path, after);
     let is_last = path.len() + 1 == search.members;
     // The path may have many successors although few dependencies close it.
-    if is_last && search.successors < nexts.len() {
+    if is_last && is_worth_closing(search, path, nexts.len()) {
         return close(search, path, after, collector, pace);
     }
     let locks = search.search_input.locks();
