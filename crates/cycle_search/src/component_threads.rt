@@ -11,8 +11,8 @@ use dependencies::DepTable;
 use std::alloc::Global;
 use trace_model::NoMemory;
 
-/// The threads of the cyclic dependencies of each component: ascending keys, each once. The key of a
-/// component and a thread has the component in its upper half and the thread in its lower half.
+/// The threads of the cyclic dependencies of each component: ascending keys, each once. The key of
+/// a component and a thread has the component in its upper half and the thread in its lower half.
 #[derive(Drop)]
 pub(crate) struct ComponentThreads {
     keys: Vec<u64>,
