@@ -1,6 +1,6 @@
 -- Timestamps: vector clocks of the places of each dependency (PLDI 2023).
-use Rattle.std.specs.Prelude.{◌≡◌, ℕ, ◌≤◌, ◌⊎◌, Bool, List, Option, Some, slice_get, slice_set, MatchOption}
-use Rattle.std.specs.Global.{Vec}
+use Rattle.std.specs.Prelude.{◌≡◌, ℕ, ◌+◌, ◌<◌, ◌≤◌, ◌++◌, ◌⊎◌, Bool, List, length, Option, Some, None, slice_get, slice_set, MatchOption}
+use Rattle.std.specs.Option.{ForSome}
 use Rattle.trace_model.specs.Theory.Trace.{Trace}
 use Rattle.trace_model.specs.Theory.Closure.{Places, IsClosed}
 use Rattle.fronts.specs.declared.requirements.ThreadPrefix.{ThreadPrefix}
@@ -8,58 +8,87 @@ use Rattle.sp_closure.specs.declared.timelines.Timestamp.{Timestamp}
 use Rattle.sp_closure.specs.declared.timelines.Timeline.{Timeline}
 use Rattle.sp_closure.specs.declared.timelines.Timestamps.{Timestamps}
 use Rattle.sp_closure.specs.declared.timelines.Pointer.{Pointer}
-use Rattle.fronts.specs.Slots.{HasSlotPosition, HoldsFirst, HasFirst, HoldsPlaces, AreSlots}
+use Rattle.fronts.specs.Slots.{HasSlotPosition, HasPlaces, HoldsFirst, HoldsPlaces, AreSlots}
 use Rattle.fronts.specs.Members.{EndsBefore}
 use Rattle.sp_closure.specs.Pointers.{NumberAt}
 use Rattle.sp_closure.specs.Reaching.{AllStop}
 
--- The place is entry `k` of the timeline.
-pub record IsEntryAt (s : Trace) (slots : ℕ → Option ℕ) (timeline : Timeline)
-    (k q : ℕ) : Type 0 where
-  pub timestamp : Timestamp
-  pub at : slice_get timeline.timestamps.items k ≡ Some timestamp
-  pub positions : HasSlotPosition s slots q timeline.slot timestamp.number
+-- The timestamp is entry `k` of the timeline.
+pub record HasEntry (entries : List Timestamp) (timeline : Timeline) (k : ℕ)
+    (x : Timestamp) : Type 0 where
+  pub within : k < timeline.count
+  pub at : slice_get entries (timeline.first + k) ≡ Some x
 
--- The prefix of its thread that is before the place of this timestamp.
-abbrev pub prefix_of_timestamp : Timeline → Timestamp → ThreadPrefix
-prefix_of_timestamp timeline timestamp = record { slot = timeline.slot; count = timestamp.number }
+-- The timeline has no entry from `k` on.
+abbrev pub EndsAt : List Timestamp → Timeline → ℕ → Type 0
+EndsAt entries timeline k = (i : ℕ) (x : Timestamp) → k ≤ i → HasEntry entries timeline i x → ⊥
+
+-- The place is entry `k` of the timeline.
+pub record IsEntryAt (s : Trace) (slots : ℕ → Option ℕ) (entries : List Timestamp)
+    (timeline : Timeline) (k q : ℕ) : Type 0 where
+  pub timestamp : Timestamp
+  pub at : HasEntry entries timeline k timestamp
+  pub positions : HasSlotPosition s slots q timestamp.prefix.slot timestamp.prefix.count
+
+-- The places of the one prefix are among those of the other one, which is of the same thread.
+pub record IsPartOf (part whole : ThreadPrefix) : Type 0 where
+  pub slot : part.slot ≡ whole.slot
+  pub count : part.count ≤ whole.count
+
+-- The timeline has the places of the dependency in order.
+pub record IsTimeline (s : Trace) (slots : ℕ → Option ℕ) (entries : List Timestamp) (m : ℕ)
+    (timeline : Timeline) : Type 0 where
+  pub inside : timeline.first + timeline.count ≤ length entries
+  pub places : (q : ℕ) → NumberAt s q m → (k : ℕ) × IsEntryAt s slots entries timeline k q
+  pub ascend : (i k : ℕ) (x y : Timestamp) → i ≤ k → HasEntry entries timeline i x →
+      HasEntry entries timeline k y → IsPartOf x.prefix y.prefix
+
+-- The clock of the timestamp has this number of places of the slot.
+pub record Counts (threads : ℕ) (fronts : List ℕ) (x : Timestamp)
+    (slot front : ℕ) : Type 0 where
+  pub clock : ℕ
+  pub is : x.clock ≡ Some clock
+  pub within : slot < threads
+  pub at : slice_get fronts (clock + slot) ≡ Some front
 
 -- Each closed set that contains the prefix contains, of each slot, at least the counted places.
-abbrev pub IsLowerBound : Trace → (ℕ → Option ℕ) → ThreadPrefix → List ℕ → Type 0
-IsLowerBound s slots prefix fronts = (set : Places) → IsClosed s set →
+abbrev pub IsLowerBound : Trace → (ℕ → Option ℕ) → ThreadPrefix → (ℕ → ℕ → Type 0) → Type 0
+IsLowerBound s slots prefix counted = (set : Places) → IsClosed s set →
     HoldsPlaces s slots prefix set →
-    (a n : ℕ) → slice_get fronts a ≡ Some n → HoldsFirst s slots set a n
+    (a n : ℕ) → counted a n → HoldsFirst s slots set a n
 
--- The timeline has the places of the dependency in order, with their timestamps.
-pub record IsTimeline (s : Trace) (slots : ℕ → Option ℕ) (m : ℕ)
-    (timeline : Timeline) : Type 0 where
-  pub places : (q : ℕ) → NumberAt s q m → (k : ℕ) × IsEntryAt s slots timeline k q
-  pub ascend : (i k : ℕ) (x y : Timestamp) → i ≤ k →
-      slice_get timeline.timestamps.items i ≡ Some x →
-      slice_get timeline.timestamps.items k ≡ Some y → x.number ≤ y.number
-  pub reach : (k : ℕ) (x : Timestamp) → slice_get timeline.timestamps.items k ≡ Some x →
-      HasFirst s slots timeline.slot x.number
-  pub within : (k : ℕ) (x : Timestamp) → slice_get timeline.timestamps.items k ≡ Some x →
-      IsLowerBound s slots (prefix_of_timestamp timeline x) x.fronts.items
+-- The thread has the places before the timestamp's, and if its clock is computed, it counts places
+-- of their closure.
+pub record IsTimestamp (s : Trace) (slots : ℕ → Option ℕ) (threads : ℕ) (fronts : List ℕ)
+    (x : Timestamp) : Type 0 where
+  pub reach : HasPlaces s slots x.prefix
+  pub inside : ForSome x.clock (λ clock. clock + threads ≤ length fronts)
+  pub bound : IsLowerBound s slots x.prefix (Counts threads fronts x)
 
--- The same for each dependency.
-abbrev pub AreTimelines : Trace → (ℕ → Option ℕ) → List Timeline → Type 0
-AreTimelines s slots timelines = (m : ℕ) (timeline : Timeline) →
-    slice_get timelines m ≡ Some timeline →
-    IsTimeline s slots m timeline
+-- The dependency has this timeline.
+abbrev pub HasTimeline : Timestamps → ℕ → Timeline → Type 0
+HasTimeline timestamps m timeline = slice_get timestamps.timelines.items m ≡ Some (Some timeline)
+
+-- The timelines are those of dependencies, and the timestamps those of their places.
+pub record AreTimelines (s : Trace) (slots : ℕ → Option ℕ) (timestamps : Timestamps) : Type 0 where
+  pub each : (m : ℕ) (timeline : Timeline) → HasTimeline timestamps m timeline →
+      IsTimeline s slots timestamps.entries.items m timeline
+  pub stamped : (i : ℕ) (x : Timestamp) → slice_get timestamps.entries.items i ≡ Some x →
+      IsTimestamp s slots timestamps.threads timestamps.fronts.items x
 
 -- The timelines are those of the trace's dependencies, by number.
 pub record AreTimestamps (s : Trace) (timestamps : Timestamps) : Type 0 where
   pub slots : ℕ → Option ℕ
   pub count : ℕ
   pub known : AreSlots s slots count
-  pub each : AreTimelines s slots timestamps.of.items
+  pub are : AreTimelines s slots timestamps
 
 -- Each place of the pointer's dependency at which the set stops is an entry at or after the
 -- pointer's.
-abbrev pub StopsFrom : Trace → (ℕ → Option ℕ) → Places → Timeline → Pointer → Type 0
-StopsFrom s slots set timeline p = (q : ℕ) → NumberAt s q p.number → EndsBefore s set q → (k : ℕ)
-    × (p.entry ≤ k) × IsEntryAt s slots timeline k q
+abbrev pub StopsFrom : Trace → (ℕ → Option ℕ) → Places → List Timestamp → Timeline → Pointer →
+    Type 0
+StopsFrom s slots set entries timeline p = (q : ℕ) → NumberAt s q p.number → EndsBefore s set q →
+    (k : ℕ) × (p.entry ≤ k) × IsEntryAt s slots entries timeline k q
 
 -- The set stops at no place of the dependency.
 abbrev pub StopsNowhere : Trace → Places → ℕ → Type 0
@@ -67,9 +96,9 @@ StopsNowhere s set m = (q : ℕ) → NumberAt s q m → EndsBefore s set q → �
 
 -- The same for a timeline that is looked up.
 abbrev pub StopsFromAt : (s : Trace) → (ℕ → Option ℕ) → Timestamps → Places → Pointer → Type 0
-StopsFromAt s slots timestamps set p = (timeline : Timeline) → slice_get timestamps.of.items
-    p.number ≡ Some timeline →
-    StopsFrom s slots set timeline p
+StopsFromAt s slots timestamps set p = (timeline : Timeline) →
+    HasTimeline timestamps p.number timeline →
+    StopsFrom s slots set timestamps.entries.items timeline p
 
 -- The property holds of each member at its entry.
 pub record AreFrom (From : Pointer → Type 0) (numbers entries : List ℕ) : Type 0 where
@@ -93,50 +122,74 @@ abbrev pub StayFrom : Timestamps → List ℕ → List ℕ → Option Bool → T
 StayFrom timestamps numbers entries went =
     MatchOption went (NoneStops timestamps numbers) (λ any. AllFrom timestamps numbers entries)
 
--- The timestamp of the pointer's place has this number of places of the slot.
-pub record HasFront (timestamps : Timestamps) (by : Pointer) (slot front : ℕ) : Type 0 where
+-- The timestamp is that of the pointer's place.
+pub record HasEntryAt (timestamps : Timestamps) (at : Pointer) (x : Timestamp) : Type 0 where
   pub timeline : Timeline
-  pub timestamp : Timestamp
-  pub timeline_at : slice_get timestamps.of.items by.number ≡ Some timeline
-  pub timestamp_at : slice_get timeline.timestamps.items by.entry ≡ Some timestamp
-  pub front_at : slice_get timestamp.fronts.items slot ≡ Some front
+  pub found : HasTimeline timestamps at.number timeline
+  pub entry : HasEntry timestamps.entries.items timeline at.entry x
 
--- That number, or 0.
-abbrev pub IsFront : Timestamps → Pointer → ℕ → ℕ → Type 0
-IsFront timestamps by slot front = (front ≡ 0) ⊎ HasFront timestamps by slot front
+-- The set contains the places that the clock of the timestamp counts.
+abbrev pub HoldsCounted : Trace → (ℕ → Option ℕ) → Timestamps → Timestamp → Places → Type 0
+HoldsCounted s slots timestamps x set = (a n : ℕ) →
+    Counts timestamps.threads timestamps.fronts.items x a n → HoldsFirst s slots set a n
 
--- A closed set that stops at a place of the one pointer, and of both pointers at none before their
--- entries, stops at none of the other before its new entry.
-abbrev pub Moves : Timestamps → Pointer → Pointer → Option ℕ → Type 0
-Moves timestamps by of entry = (s : Trace) (are : AreTimestamps s timestamps)
-    (set : Places) (q : ℕ) →
-    IsClosed s set → NumberAt s q by.number → EndsBefore s set q →
-    StopsFromAt s are.slots timestamps set by → StopsFromAt s are.slots timestamps set of →
+-- The same for each closed set that stops at a place of each member.
+abbrev pub AllHold : Timestamps → List ℕ → Timestamp → Type 0
+AllHold timestamps numbers x = (s : Trace) (are : AreTimestamps s timestamps) (set : Places) →
+    IsClosed s set → AllStop s numbers set → HoldsCounted s are.slots timestamps x set
+
+-- A set that contains what the timestamp counts, and that stops at no place of the pointer before
+-- its entry, stops at none before its new entry.
+abbrev pub Moves : Timestamps → Timestamp → Pointer → Option ℕ → Type 0
+Moves timestamps by of entry = (s : Trace) (are : AreTimestamps s timestamps) (set : Places) →
+    HoldsCounted s are.slots timestamps by set → StopsFromAt s are.slots timestamps set of →
     MatchOption entry (StopsNowhere s set of.number)
     (λ e. StopsFromAt s are.slots timestamps set (record { number = of.number; entry = e }))
 
--- The pointer is at a place, which has this prefix before it.
-pub record HasPrefix (timelines : List Timeline) (at : Pointer)
-    (prefix : ThreadPrefix) : Type 0 where
-  pub timeline : Timeline
-  pub timestamp : Timestamp
-  pub timeline_at : slice_get timelines at.number ≡ Some timeline
-  pub timestamp_at : slice_get timeline.timestamps.items at.entry ≡ Some timestamp
-  pub is : prefix ≡ prefix_of_timestamp timeline timestamp
+-- The timestamp of a place with this prefix before it, without a clock.
+pub record IsFresh (s : Trace) (slots : ℕ → Option ℕ) (x : Timestamp) : Type 0 where
+  pub reach : HasPlaces s slots x.prefix
+  pub clock : x.clock ≡ None
 
--- The timestamp at the entry has these fronts.
-pub record Puts (old : Timeline) (entry : ℕ) (fronts : Vec ℕ) (new : Timeline) : Type 0 where
-  pub timestamp : Timestamp
-  pub at : slice_get old.timestamps.items entry ≡ Some timestamp
-  pub slot : new.slot ≡ old.slot
-  pub put : new.timestamps.items ≡ slice_set old.timestamps.items entry
-      (record { number = timestamp.number; fronts = fronts })
+-- The entries have some more at their end, and the timeline is that of the dependency.
+pub record AddsTimeline (s : Trace) (slots : ℕ → Option ℕ) (m : ℕ) (old new : List Timestamp)
+    (timeline : Option Timeline) : Type 0 where
+  pub more : List Timestamp
+  pub added : new ≡ old ++ more
+  pub fresh : (k : ℕ) (x : Timestamp) → slice_get more k ≡ Some x → IsFresh s slots x
+  pub is : ForSome timeline (IsTimeline s slots new m)
 
--- The same in the list of timelines.
-pub record PutsAt (old : List Timeline) (at : Pointer) (fronts : Vec ℕ)
-    (new : List Timeline) : Type 0 where
-  pub timeline : Timeline
-  pub other : Timeline
-  pub found : slice_get old at.number ≡ Some timeline
-  pub puts : Puts timeline at.entry fronts other
-  pub put : new ≡ slice_set old at.number other
+-- The fronts have some more at their end, one of each slot.
+pub record AddsFronts (old : List ℕ) (front : ℕ → ℕ) (count : ℕ) (new : List ℕ) : Type 0 where
+  pub more : List ℕ
+  pub added : new ≡ old ++ more
+  pub all : length more ≡ count
+  pub exact : (a n : ℕ) → slice_get more a ≡ Some n → n ≡ front a
+
+-- The entry has this prefix before it, and there is room for its clock.
+pub record HasPrefix (timestamps : Timestamps) (entry : ℕ) (prefix : ThreadPrefix) : Type 0 where
+  pub timestamp : Timestamp
+  pub at : slice_get timestamps.entries.items entry ≡ Some timestamp
+  pub is : prefix ≡ timestamp.prefix
+  pub room : length timestamps.fronts.items ≤ 4194304
+
+-- The entry has a clock of these fronts.
+pub record Puts (old : Timestamps) (entry : ℕ) (front : ℕ → ℕ) (new : Timestamps) : Type 0 where
+  pub timestamp : Timestamp
+  pub at : slice_get old.entries.items entry ≡ Some timestamp
+  pub threads : new.threads ≡ old.threads
+  pub timelines : new.timelines ≡ old.timelines
+  pub put : new.entries.items ≡ slice_set old.entries.items entry
+      (record { prefix = timestamp.prefix; clock = Some (length old.fronts.items) })
+  pub fronts : AddsFronts old.fronts.items front old.threads new.fronts.items
+
+-- No entry has changed.
+pub record Stays (old new : Timestamps) : Type 0 where
+  pub threads : new.threads ≡ old.threads
+  pub timelines : new.timelines ≡ old.timelines
+  pub entries : new.entries ≡ old.entries
+  pub fronts : new.fronts.items ≡ old.fronts.items
+
+-- The one or the other.
+abbrev pub MayPut : Timestamps → ℕ → (ℕ → ℕ) → Timestamps → Type 0
+MayPut old entry front new = Stays old new ⊎ Puts old entry front new

@@ -4,38 +4,49 @@
 //! are in the closure of the places before this one in its thread. If a place is in the closure of
 //! another member's place, no reordering stops at both.
 
-ghost use Rattle.std.specs.Prelude.{◌≡◌, ℕ, ◌<◌, ◌≤◌, IsTrue, length, slice_get, Option, Some, MatchOption};
+ghost use Rattle.std.specs.Prelude.{◌≡◌, ℕ, ◌⊎◌, ◌<◌, ◌≤◌, IsTrue, length, Option, Some, MatchOption, IfSome};
 ghost use Rattle.trace_model.specs.Theory.Trace.{Trace};
 ghost use Rattle.trace_model.specs.Theory.Cycles.{IsConfirmed};
 ghost use Rattle.dependencies.specs.Tables.{AreDependencyNumbers};
 ghost use Rattle.sp_closure.specs.declared.timelines.Timestamp.{Timestamp};
-ghost use Rattle.sp_closure.specs.Timestamps.{AreTimestamps, AllFrom, IsFront, Moves, StayFrom};
+ghost use Rattle.sp_closure.specs.Timestamps.{AreTimestamps, AllFrom, AllHold, Counts, EndsAt, HasEntry, HasEntryAt, HasTimeline, Moves, StayFrom};
 
+use fronts::ThreadPrefix;
 use trace_model::MAX_MEMBERS;
 
-/// A place of a dependency: its number in its thread, and its vector clock. Threads past the end of
-/// the list are unknown.
-#[derive(Drop)]
+/// A place of a dependency: the places before it in its thread, and the index at which its vector
+/// clock begins, if that was computed.
+#[derive(Clone, Copy)]
 pub(crate) struct Timestamp {
-    pub(crate) number: u32,
-    pub(crate) fronts: Vec<u32>,
+    pub(crate) prefix: ThreadPrefix,
+    pub(crate) clock: Option<u32>,
 }
 
-/// The places of a dependency in order, with their timestamps. All are of one thread.
-#[derive(Drop)]
+/// The places of a dependency in order: the index of the first one's entry, and their number. All
+/// are of one thread.
+#[derive(Clone, Copy)]
 pub(crate) struct Timeline {
-    pub(crate) slot: u32,
-    pub(crate) timestamps: Vec<Timestamp>,
+    pub(crate) first: u32,
+    pub(crate) count: u32,
 }
 
-/// The timelines of all dependencies, by number.
+/// The timelines of the wanted dependencies, by number. All entries are in one list, and all vector
+/// clocks in another one: for each clock one number for each thread.
 pub struct Timestamps {
-    pub(crate) of: Vec<Timeline>,
+    pub(crate) threads: u32,
+    pub(crate) timelines: Vec<Option<Timeline>>,
+    pub(crate) entries: Vec<Timestamp>,
+    pub(crate) fronts: Vec<u32>,
 }
 
 impl Drop for Timestamps {
     fn drop(self) {
-        let Timestamps { of: _ } = self;
+        let Timestamps {
+            threads: _,
+            timelines: _,
+            entries: _,
+            fronts: _,
+        } = self;
     }
 }
 
@@ -50,68 +61,107 @@ pub(crate) struct Pointer {
 /// The maximum number of rounds in which all members of a cycle are advanced.
 const MAX_ROUNDS: usize = 4096;
 
-impl Timeline {
+impl Timestamps {
+    /// Returns the timeline of the dependency, or `None` if it is unknown.
+    fn timeline(&self, number: u32) -> Option<Timeline>
+        ensures { IfSome result (HasTimeline self.now number) }
+    {
+        match self.timelines.get(number as usize) {
+            Some(timeline) => *timeline,
+            None => None,
+        }
+    }
+
+    /// Returns entry `entry` of the timeline, or `None` if it has no more entries.
+    fn entry_of(&self, timeline: Timeline, entry: usize) -> Option<Timestamp>
+        ensures { MatchOption result (EndsAt self.now.entries.items timeline entry)
+            (HasEntry self.now.entries.items timeline entry) }
+    {
+        if entry >= timeline.count as usize {
+            return None;
+        }
+        match self.entries.get(timeline.first as usize + entry) {
+            Some(timestamp) => Some(*timestamp),
+            None => None,
+        }
+    }
+
+    /// Returns the timestamp of the place at `at`, or `None` if it is unknown.
+    fn entry(&self, at: Pointer) -> Option<Timestamp>
+        ensures { IfSome result (HasEntryAt self.now at) }
+    {
+        match self.timeline(at.number) {
+            Some(timeline) => self.entry_of(timeline, at.entry),
+            None => None,
+        }
+    }
+
     /// Returns the first index from `entry` on whose place has at least `count` places of its
     /// thread before it, or `None` if there is none.
-    fn next(&self, entry: usize, count: u32) -> Option<usize>
+    fn next(&self, timeline: Timeline, entry: usize, count: u32) -> Option<usize>
         ensures { (k : ℕ) (x : Timestamp) →
-            slice_get self.now.timestamps.items k ≡ Some x → entry ≤ k →
-            count ≤ x.number → MatchOption result ⊥ (λ e. e ≤ k) }
+            HasEntry self.now.entries.items timeline k x → entry ≤ k →
+            count ≤ x.prefix.count → MatchOption result ⊥ (λ e. e ≤ k) }
     {
-        let mut next = entry;
-        while next < self.timestamps.len() {
-            if count <= self.timestamps[next].number {
+        for next in entry..timeline.count as usize {
+            let Some(timestamp) = self.entry_of(timeline, next) else {
+                return None;
+            };
+            if count <= timestamp.prefix.count {
                 return Some(next);
             }
-            next += 1;
         }
         None
     }
-}
 
-impl Timestamps {
-    /// Returns the number of places of the slot's thread in the timestamp of the place at `by`, or
-    /// 0 if it is unknown.
-    fn front(&self, by: Pointer, slot: u32) -> u32
-        ensures { IsFront self.now by slot result }
+    /// Returns the number of places of the slot's thread in the clock of the timestamp, or 0 if it
+    /// is unknown.
+    fn count_of(&self, timestamp: Timestamp, slot: u32) -> u32
+        ensures { (result ≡ 0) ⊎
+            Counts self.now.threads self.now.fronts.items timestamp slot result }
     {
-        let Some(timeline) = self.of.get(by.number as usize) else {
+        let Some(clock) = timestamp.clock else {
             return 0;
         };
-        let Some(timestamp) = timeline.timestamps.get(by.entry) else {
+        if slot >= self.threads {
             return 0;
-        };
-        match timestamp.fronts.get(slot as usize) {
+        }
+        match self.fronts.get(clock as usize + slot as usize) {
             Some(front) => *front,
             None => 0,
         }
     }
 
-    /// Returns the index of the first place of `of` that is not in the timestamp of the place at
-    /// `by`, or `None` if there is none.
-    fn moved(&self, by: Pointer, of: Pointer) -> Option<usize>
+    /// Returns the index of the first place of `of` that is not in the clock of `by`, or `None` if
+    /// there is none.
+    fn moved(&self, by: Timestamp, of: Pointer) -> Option<usize>
         ensures { Moves self.now by of result }
     {
-        let Some(timeline) = self.of.get(of.number as usize) else {
+        let Some(timeline) = self.timeline(of.number) else {
             return Some(of.entry);
         };
-        let front = self.front(by, timeline.slot);
-        timeline.next(of.entry, front)
+        let Some(timestamp) = self.entry_of(timeline, of.entry) else {
+            return Some(of.entry);
+        };
+        let count = self.count_of(by, timestamp.prefix.slot);
+        self.next(timeline, of.entry, count)
     }
 
-    /// Advances member `j` past the timestamp of member `i`. Returns whether it advanced, or `None`
-    /// if it has no further place.
-    fn move_one(&self, numbers: &[u32], entries: &mut [usize], i: usize, j: usize) -> Option<bool>
-        requires by { (i < length numbers.now) × (i < length entries.old) }
+    /// Advances member `j` past the clock of `by`. Returns whether it advanced, or `None` if it has
+    /// no further place.
+    fn move_one(
+        &self,
+        numbers: &[u32],
+        entries: &mut [usize],
+        by: Timestamp,
+        j: usize,
+    ) -> Option<bool>
         requires of { (j < length numbers.now) × (j < length entries.old) }
         requires from { AllFrom self.now numbers.now entries.old }
+        requires held { AllHold self.now numbers.now by }
         ensures length { length entries.new ≡ length entries.old }
         ensures from { StayFrom self.now numbers.now entries.new result }
     {
-        let by = Pointer {
-            number: numbers[i],
-            entry: entries[i],
-        };
         let of = Pointer {
             number: numbers[j],
             entry: entries[j],
@@ -119,6 +169,43 @@ impl Timestamps {
         let entry = self.moved(by, of)?;
         entries[j] = entry;
         Some(entry != of.entry)
+    }
+
+    /// Advances each member past the clock of `by`. Returns whether one advanced, or `None` if one
+    /// has no further place.
+    fn move_past(&self, numbers: &[u32], entries: &mut [usize], by: Timestamp) -> Option<bool>
+        requires room { length numbers.now ≤ length entries.old }
+        requires from { AllFrom self.now numbers.now entries.old }
+        requires held { AllHold self.now numbers.now by }
+        ensures length { length entries.new ≡ length entries.old }
+        ensures from { StayFrom self.now numbers.now entries.new result }
+    {
+        let mut went = false;
+        for j in 0..numbers.len() {
+            if self.move_one(numbers, entries, by, j)? {
+                went = true;
+            }
+        }
+        Some(went)
+    }
+
+    /// Advances each member past the timestamp of member `i`. Returns whether one advanced, or
+    /// `None` if one has no further place.
+    fn move_by(&self, numbers: &[u32], entries: &mut [usize], i: usize) -> Option<bool>
+        requires by { i < length numbers.now }
+        requires room { length numbers.now ≤ length entries.old }
+        requires from { AllFrom self.now numbers.now entries.old }
+        ensures length { length entries.new ≡ length entries.old }
+        ensures from { StayFrom self.now numbers.now entries.new result }
+    {
+        let at = Pointer {
+            number: numbers[i],
+            entry: entries[i],
+        };
+        match self.entry(at) {
+            Some(by) => self.move_past(numbers, entries, by),
+            None => Some(false),
+        }
     }
 
     /// Advances each member past the timestamp of each other member. Returns whether one advanced,
@@ -131,10 +218,8 @@ impl Timestamps {
     {
         let mut went = false;
         for i in 0..numbers.len() {
-            for j in 0..numbers.len() {
-                if self.move_one(numbers, entries, i, j)? {
-                    went = true;
-                }
+            if self.move_by(numbers, entries, i)? {
+                went = true;
             }
         }
         Some(went)

@@ -1,83 +1,109 @@
 //! Computes the timestamps of all places of the dependencies.
 
-ghost use Rattle.std.specs.Prelude.{◌≡◌, ℕ, ◌<◌, ◌≤◌, length, slice_get, Some, IfOk, IfSome};
+ghost use Rattle.std.specs.Prelude.{◌≡◌, ℕ, ◌<◌, ◌≤◌, length, IfOk, OnOk, OnErr, IfSome};
 ghost use Rattle.std.specs.Option.{ForSome};
 ghost use Rattle.dependencies.specs.Tables.{table_dependencies, NumbersWholeTrace};
 ghost use Rattle.fronts.specs.Slots.{slots_of, AreThreadSlots, HasPlaces};
 ghost use Rattle.fronts.specs.Overlays.{front_of};
 ghost use Rattle.fronts.specs.Requirements.{AreRequirements};
 ghost use Rattle.fronts.specs.declared.requirements.ThreadPrefix.{ThreadPrefix};
-ghost use Rattle.sp_closure.specs.Timestamps.{AreTimestamps, AreTimelines, HasPrefix, IsTimeline, IsLowerBound, Puts, PutsAt};
-ghost use Rattle.sp_closure.specs.Scratches.{IsScratch};
+ghost use Rattle.sp_closure.specs.Timestamps.{AddsFronts, AddsTimeline, AreTimestamps, AreTimelines, HasPrefix, MayPut};
+ghost use Rattle.sp_closure.specs.Scratches.{IsScratch, IsOnPrefix};
 ghost use Rattle.sp_closure.specs.Filling.{IsFilling};
 
-use crate::add_member::first_member;
 use crate::scratch::{ClosureScratch, MAX_BASES};
-use crate::timelines::{Pointer, Timeline, Timestamp, Timestamps};
+use crate::timelines::{Timeline, Timestamp, Timestamps};
 use dependencies::DepTable;
 use fronts::{Overlay, Requirements, SlotTable, Steps, ThreadPrefix, prefix_before};
 use std::alloc::Global;
 use std::sync::ledger::Ledger;
 use trace_index::TraceIndex;
-use trace_model::NoMemory;
+use trace_model::{NoMemory, Place};
 
-/// The maximum number of entries of all timestamps of a trace together.
+/// The maximum number of entries of all clocks of a trace together.
 const MAX_TIMESTAMP_ENTRIES: usize = 4_194_304;
 
-/// Returns the fronts of the overlay, by slot.
-///
-/// # Errors
-/// `NoMemory` if an allocation fails.
-fn fronts_of(
-    alloc: Global,
-    none: &Overlay,
-    overlay: &Overlay,
-    count: u32,
-) -> Result<Vec<u32>, NoMemory>
-    ensures { IfOk result (λ fronts. (a n : ℕ) → slice_get fronts.items a ≡ Some n →
-        n ≡ front_of none.now overlay.now a) }
-{
-    let mut fronts = Vec::with_capacity(alloc, count as usize)?;
-    for slot in 0..count {
-        fronts.push_reserved(overlay.front(none, slot).count());
-    }
-    Ok(fronts)
+/// The maximum number of places of a timeline, and of those before it.
+const MAX_PLACES: usize = 2_147_483_647;
+
+/// Returns the key of a place and its entry: keys are ordered by place.
+fn key(place: Place, entry: u32) -> u64 {
+    u64::from(place.get()) * 4_294_967_296 + u64::from(entry)
 }
 
-/// Returns the timeline of the dependency `number`, with empty timestamps.
+/// Returns the entry of a key.
+fn entry_of(key: u64) -> usize {
+    (key % 4_294_967_296) as usize
+}
+
+/// Adds an entry without a clock for each place of the dependency `number`, and its key to `order`.
+/// Returns the timeline of these entries, or `None` if there are too many.
 ///
 /// # Errors
 /// `NoMemory` if an allocation fails.
-fn timeline_of(
-    alloc: Global,
+fn add_places(
     index: &TraceIndex,
     threads: &SlotTable,
     table: &DepTable,
     number: u32,
-) -> Result<Timeline, NoMemory>
+    entries: &mut Vec<Timestamp>,
+    order: &mut Vec<u64>,
+) -> Result<Option<Timeline>, NoMemory>
     requires slots { AreThreadSlots index.now.events threads.now }
     requires one_trace { NumbersWholeTrace table.now index.now.events }
     requires known { number < length (table_dependencies table.now) }
-    ensures { IfOk result (IsTimeline index.now.events (slots_of threads.now) number) }
+    ensures { IfOk result (AddsTimeline index.now.events (slots_of threads.now) number
+        entries.old.items entries.new.items) }
 {
-    let first = first_member(index, threads, table, number);
-    let count = first.places.len();
-    let mut timestamps = Vec::with_capacity(alloc, count)?;
-    for entry in 0..count {
-        let place = first.places.get(entry);
-        let prefix = prefix_before(index, threads, place);
-        timestamps.push_reserved(Timestamp {
-            number: prefix.count,
-            fronts: Vec::new(alloc),
-        });
+    let places = table.places(number);
+    let first = entries.len();
+    let count = places.len();
+    if first > MAX_PLACES || count > MAX_PLACES {
+        return Ok(None);
     }
-    Ok(Timeline {
-        slot: first.slot,
-        timestamps,
-    })
+    for entry in 0..count {
+        let place = places.get(entry);
+        let prefix = prefix_before(index, threads, place);
+        order.push(key(place, (first + entry) as u32))?;
+        entries.push(Timestamp {
+            prefix,
+            clock: None,
+        })?;
+    }
+    Ok(Some(Timeline {
+        first: first as u32,
+        count: count as u32,
+    }))
 }
 
-/// Returns the timelines of all dependencies, with empty timestamps.
+/// Does the same if `wanted` says that the dependency is wanted. Else it returns `None`.
+///
+/// # Errors
+/// `NoMemory` if an allocation fails.
+fn add_wanted(
+    index: &TraceIndex,
+    threads: &SlotTable,
+    table: &DepTable,
+    wanted: &[bool],
+    number: u32,
+    entries: &mut Vec<Timestamp>,
+    order: &mut Vec<u64>,
+) -> Result<Option<Timeline>, NoMemory>
+    requires slots { AreThreadSlots index.now.events threads.now }
+    requires one_trace { NumbersWholeTrace table.now index.now.events }
+    requires known { number < length (table_dependencies table.now) }
+    ensures { IfOk result (AddsTimeline index.now.events (slots_of threads.now) number
+        entries.old.items entries.new.items) }
+{
+    match wanted.get(number as usize) {
+        Some(true) => add_places(index, threads, table, number, entries, order),
+        _ => Ok(None),
+    }
+}
+
+/// Returns the timelines of the wanted dependencies, without clocks. Sets `order` to the keys of
+/// their entries, by place: clocks are computed in this order, so that each one extends an earlier
+/// one. The results do not depend on the order.
 ///
 /// # Errors
 /// `NoMemory` if an allocation fails.
@@ -86,83 +112,79 @@ fn timelines_of(
     index: &TraceIndex,
     threads: &SlotTable,
     table: &DepTable,
-) -> Result<Vec<Timeline>, NoMemory>
+    wanted: &[bool],
+    order: &mut Vec<u64>,
+) -> Result<Timestamps, NoMemory>
     requires slots { AreThreadSlots index.now.events threads.now }
     requires one_trace { NumbersWholeTrace table.now index.now.events }
-    ensures { IfOk result (λ timelines.
-        AreTimelines index.now.events (slots_of threads.now) timelines.items) }
+    ensures { IfOk result (AreTimelines index.now.events (slots_of threads.now)) }
 {
+    let mut entries = Vec::new(alloc);
     let mut timelines = Vec::with_capacity(alloc, table.len())?;
     for number in 0..table.len() {
-        let timeline = timeline_of(alloc, index, threads, table, number as u32)?;
+        let number = number as u32;
+        let timeline = add_wanted(index, threads, table, wanted, number, &mut entries, order)?;
         timelines.push_reserved(timeline);
     }
-    Ok(timelines)
-}
-
-/// Returns for each place of the trace a pointer to its entry in a timeline, if it has one and
-/// `wanted` says that its dependency is wanted. Timestamps are computed in this order, so that each
-/// one extends an earlier one. The results do not depend on the order.
-///
-/// # Errors
-/// `NoMemory` if an allocation fails.
-fn in_order(
-    alloc: Global,
-    index: &TraceIndex,
-    table: &DepTable,
-    wanted: &[bool],
-) -> Result<Vec<Option<Pointer>>, NoMemory> {
-    let mut order = vec![in alloc; None; index.len()]?;
-    for (number, is_wanted) in wanted.iter().enumerate() {
-        if !*is_wanted || number >= table.len() {
-            continue;
-        }
-        let places = table.places(number as u32);
-        for entry in 0..places.len() {
-            let place = places.get(entry).get() as usize;
-            if place < order.len() {
-                order[place] = Some(Pointer {
-                    number: number as u32,
-                    entry,
-                });
-            }
-        }
-    }
-    Ok(order)
-}
-
-/// Returns the prefix of its thread before the place at `at`.
-fn prefix_at(timelines: &[Timeline], at: Pointer) -> Option<ThreadPrefix>
-    ensures { IfSome result (HasPrefix timelines.now at) }
-{
-    let Some(timeline) = timelines.get(at.number as usize) else {
-        return None;
-    };
-    let Some(timestamp) = timeline.timestamps.get(at.entry) else {
-        return None;
-    };
-    Some(ThreadPrefix {
-        slot: timeline.slot,
-        count: timestamp.number,
+    order.sort_unstable();
+    Ok(Timestamps {
+        threads: threads.count,
+        timelines,
+        entries,
+        fronts: Vec::new(alloc),
     })
 }
 
-impl Timeline {
-    /// Sets the timestamp of an entry.
-    fn put(&mut self, entry: usize, fronts: Vec<u32>)
-        requires { entry < length self.old.timestamps.items }
-        ensures { Puts self.old entry fronts self.new }
-    {
-        self.timestamps[entry].fronts = fronts;
+/// Adds the fronts of the overlay, by slot.
+///
+/// # Errors
+/// `NoMemory` if an allocation fails. `fronts` does not change.
+fn add_fronts(
+    none: &Overlay,
+    overlay: &Overlay,
+    count: u32,
+    fronts: &mut Vec<u32>,
+) -> Result<(), NoMemory>
+    ensures ok { OnOk result
+        (AddsFronts fronts.old.items (front_of none.now overlay.now) count fronts.new.items) }
+    ensures err { OnErr result (fronts.new.items ≡ fronts.old.items) }
+{
+    fronts.reserve(count as usize)?;
+    for slot in 0..count {
+        fronts.push_reserved(overlay.front(none, slot).count());
     }
+    Ok(())
 }
 
-/// Sets the timestamp of the place at `at`.
-fn put_at(timelines: &mut [Timeline], at: Pointer, fronts: Vec<u32>)
-    requires { (prefix : ThreadPrefix) × HasPrefix timelines.old at prefix }
-    ensures { PutsAt timelines.old at fronts timelines.new }
-{
-    timelines[at.number as usize].put(at.entry, fronts);
+impl Timestamps {
+    /// Returns the prefix before the place of the entry, if there is one and there is room for its
+    /// clock.
+    fn prefix(&self, entry: usize) -> Option<ThreadPrefix>
+        ensures { IfSome result (HasPrefix self.now entry) }
+    {
+        let room = MAX_TIMESTAMP_ENTRIES.checked_sub(self.threads as usize)?;
+        if self.fronts.len() > room {
+            return None;
+        }
+        match self.entries.get(entry) {
+            Some(timestamp) => Some(timestamp.prefix),
+            None => None,
+        }
+    }
+
+    /// Sets the clock of the entry to the fronts of the overlay.
+    ///
+    /// # Errors
+    /// `NoMemory` if an allocation fails. No entry changes.
+    fn put(&mut self, entry: usize, none: &Overlay, overlay: &Overlay) -> Result<(), NoMemory>
+        requires { (prefix : ThreadPrefix) × HasPrefix self.old entry prefix }
+        ensures { MayPut self.old entry (front_of none.now overlay.now) self.new }
+    {
+        let clock = self.fronts.len() as u32;
+        add_fronts(none, overlay, self.threads, &mut self.fronts)?;
+        self.entries[entry].clock = Some(clock);
+        Ok(())
+    }
 }
 
 /// Returns whether the timestamps of these dependencies are cheap to compute and small: the trace
@@ -174,36 +196,28 @@ fn are_small(requirements: &Requirements, table: &DepTable) -> bool {
 }
 
 impl ClosureScratch {
-    /// Returns the number of places of each thread in the closure of the prefix.
+    /// Makes the present base the closure of the prefix, kept for its thread.
     ///
     /// # Errors
     /// `NoMemory` if an allocation fails.
-    fn timestamp_of<L: Ledger>(
+    fn close_prefix<L: Ledger>(
         &mut self,
         index: &TraceIndex,
         requirements: &Requirements,
         prefix: ThreadPrefix,
         steps: &mut Steps<L>,
-    ) -> Result<Vec<u32>, NoMemory>
+    ) -> Result<(), NoMemory>
         requires scratch { IsScratch index.now.events requirements.now self.old }
         requires reach { HasPlaces index.now.events
             (slots_of requirements.now.threads) prefix }
         ensures scratch { IsScratch index.now.events requirements.now self.new }
-        ensures timestamp { IfOk result (λ fronts.
-            IsLowerBound index.now.events (slots_of requirements.now.threads) prefix
-            fronts.items) }
+        ensures base { OnOk result (IsOnPrefix index.now.events requirements.now self.new prefix) }
     {
         self.turn_to(index, requirements, prefix.slot)?;
-        self.base_on(index, requirements, prefix, steps)?;
-        fronts_of(
-            self.alloc,
-            &self.none,
-            &self.base.overlay,
-            requirements.threads.count,
-        )
+        self.base_on(index, requirements, prefix, steps)
     }
 
-    /// Computes the timestamp of the place at `at`.
+    /// Computes the clock of an entry, if there is room for it.
     ///
     /// # Errors
     /// `NoMemory` if an allocation fails.
@@ -211,49 +225,21 @@ impl ClosureScratch {
         &mut self,
         index: &TraceIndex,
         requirements: &Requirements,
-        timelines: &mut Vec<Timeline>,
-        at: Pointer,
+        timestamps: &mut Timestamps,
+        entry: usize,
         steps: &mut Steps<L>,
     ) -> Result<(), NoMemory>
-        requires { IsFilling index.now.events requirements.now self.old timelines.old.items }
-        ensures { IsFilling index.now.events requirements.now self.new timelines.new.items }
+        requires { IsFilling index.now.events requirements.now self.old timestamps.old }
+        ensures { IsFilling index.now.events requirements.now self.new timestamps.new }
     {
-        let Some(prefix) = prefix_at(timelines.as_slice(), at) else {
+        let Some(prefix) = timestamps.prefix(entry) else {
             return Ok(());
         };
-        let fronts = self.timestamp_of(index, requirements, prefix, steps)?;
-        put_at(timelines.as_mut_slice(), at, fronts);
-        Ok(())
+        self.close_prefix(index, requirements, prefix, steps)?;
+        timestamps.put(entry, &self.none, &self.base.overlay)
     }
 
-    /// Computes the timestamp of the place at `at`, if there is one and `room` entries suffice.
-    /// Returns the number of entries left.
-    ///
-    /// # Errors
-    /// `NoMemory` if an allocation fails.
-    fn fill_within<L: Ledger>(
-        &mut self,
-        index: &TraceIndex,
-        requirements: &Requirements,
-        timelines: &mut Vec<Timeline>,
-        at: Option<Pointer>,
-        room: usize,
-        steps: &mut Steps<L>,
-    ) -> Result<usize, NoMemory>
-        requires { IsFilling index.now.events requirements.now self.old timelines.old.items }
-        ensures { IsFilling index.now.events requirements.now self.new timelines.new.items }
-    {
-        let Some(left) = room.checked_sub(requirements.threads.count as usize) else {
-            return Ok(room);
-        };
-        let Some(at) = at else {
-            return Ok(room);
-        };
-        self.fill(index, requirements, timelines, at, steps)?;
-        Ok(left)
-    }
-
-    /// Computes the timestamps of places in this order, up to `MAX_TIMESTAMP_ENTRIES` entries.
+    /// Computes the clocks of the entries in this order, as far as there is room.
     ///
     /// # Errors
     /// `NoMemory` if an allocation fails.
@@ -261,16 +247,15 @@ impl ClosureScratch {
         &mut self,
         index: &TraceIndex,
         requirements: &Requirements,
-        timelines: &mut Vec<Timeline>,
-        order: &[Option<Pointer>],
+        timestamps: &mut Timestamps,
+        order: &[u64],
         steps: &mut Steps<L>,
     ) -> Result<(), NoMemory>
-        requires { IsFilling index.now.events requirements.now self.old timelines.old.items }
-        ensures { IsFilling index.now.events requirements.now self.new timelines.new.items }
+        requires { IsFilling index.now.events requirements.now self.old timestamps.old }
+        ensures { IsFilling index.now.events requirements.now self.new timestamps.new }
     {
-        let mut room = MAX_TIMESTAMP_ENTRIES;
-        for at in order {
-            room = self.fill_within(index, requirements, timelines, *at, room, steps)?;
+        for key in order {
+            self.fill(index, requirements, timestamps, entry_of(*key), steps)?;
         }
         Ok(())
     }
@@ -292,10 +277,17 @@ impl ClosureScratch {
         requires one_trace { NumbersWholeTrace table.now index.now.events }
         ensures { IfOk result (AreTimestamps index.now.events) }
     {
-        let mut timelines = timelines_of(self.alloc, index, &requirements.threads, table)?;
-        let order = in_order(self.alloc, index, table, wanted)?;
-        self.fill_all(index, requirements, &mut timelines, order.as_slice(), steps)?;
-        Ok(Timestamps { of: timelines })
+        let mut order = Vec::new(self.alloc);
+        let threads = &requirements.threads;
+        let mut timestamps = timelines_of(self.alloc, index, threads, table, wanted, &mut order)?;
+        self.fill_all(
+            index,
+            requirements,
+            &mut timestamps,
+            order.as_slice(),
+            steps,
+        )?;
+        Ok(timestamps)
     }
 }
 

@@ -1,21 +1,28 @@
-use Rattle.std.proofs.Common.{◌≤◌, inl, inr, [], ◌∷◌, length, slice_get, sym, ap, subst, ◌∙◌, arith}
-use Rattle.std.proofs.lemmas.List.{length-append}
-use Rattle.trace_model.proofs.Lists.{get-push}
+use Rattle.std.proofs.Common.{◌≤◌, sym, subst}
+use Rattle.fronts.proofs.BuildLemmas.{length_pushed}
 use Rattle.fronts.specs.Slots.{slots_of}
-use Rattle.sp_closure.specs.Timestamps.{IsTimeline}
+use Rattle.sp_closure.proofs.TimestampLemmas.{fresh_added, fresh_timestamp, timelines_added}
 use Rattle.sp_closure.proofs.timestamps.timelines_of.Goals as goal
 
 pub loop-number-preserved : goal.loop-number-preserved
 loop-number-preserved c =
     let s = c.args.index.now.events in
-    let was = c.loop-number.invariant in
-    let fresh = c.in_ok-timeline.timeline in
     let slots = slots_of c.args.threads.now in
+    let was = c.loop-number.invariant in
+    let old = c.loop-number.entries.items in
+    let new = c.add_wanted.new.entries.items in
+    let timelines = c.loop-number.timelines.items in
+    let pushed = c.push_reserved.new.self.items in
+    let made = c.in_ok-timeline.timeline in
     record {
-      count = omega (arith, ap length c.push_reserved.ensures.items, length-append c.loop-number.timelines.items (fresh ∷ []), was.count);
+      count = length_pushed timelines pushed c.loop-number.number made c.push_reserved.ensures.items was.count;
       room = subst (λ z. c.len-number-end.result ≤ z) (sym c.push_reserved.ensures.capacity) was.room;
-      each = λ m timeline at. elim (get-push c.loop-number.timelines.items fresh m timeline (ap (λ xs. slice_get xs m) (sym c.push_reserved.ensures.items) ∙ at)) [
-        | inl old ↦ was.each m timeline old
-        | inr new ↦ subst (λ z. IsTimeline s slots z timeline) (sym (new.0 ∙ was.count)) (subst (IsTimeline s slots c.loop-number.number) new.1 c.in_ok-timeline.ensures)
-      ];
+      each = timelines_added s slots old new timelines pushed c.loop-number.number made was.each c.in_ok-timeline.ensures c.push_reserved.ensures.items was.count;
+      fresh = fresh_added s slots old new c.loop-number.number made was.fresh c.in_ok-timeline.ensures;
     }
+
+pub returns : goal.returns
+returns c = record {
+  each = c.loop-number.invariant.each;
+  stamped = λ i x at. fresh_timestamp c.args.index.now.events (slots_of c.args.threads.now) c.args.threads.now.count c.new.result.items x (c.loop-number.invariant.fresh i x at);
+}

@@ -1,38 +1,35 @@
-use Rattle.std.proofs.Common.{length, sym, ap, subst, ◌∙◌}
-use Rattle.std.proofs.Math.ListN.{length-set}
-use Rattle.sp_closure.proofs.EnterLemmas.{written}
+use Rattle.std.proofs.Common.{◌≡◌, ℕ, inl, inr, sym, ap, subst, ◌∙◌}
+use Rattle.std.proofs.lemmas.Option.{same_Some}
+use Rattle.trace_model.specs.Theory.Closure.{Places, IsClosed}
+use Rattle.fronts.specs.Overlays.{front_of}
+use Rattle.fronts.specs.Slots.{slots_of, HasPlaces, HoldsFirst, HoldsPlaces}
+use Rattle.sp_closure.specs.declared.timelines.Timestamp.{Timestamp}
 use Rattle.fronts.specs.declared.requirements.ThreadPrefix.{ThreadPrefix}
-use Rattle.fronts.specs.Slots.{slots_of, HasFirst}
-use Rattle.sp_closure.specs.Timestamps.{AreTimelines, HasPrefix, PutsAt}
-use Rattle.sp_closure.proofs.TimestampLemmas.{timelines_put}
+use Rattle.sp_closure.proofs.TimestampLemmas.{timelines_put, timelines_stay}
 use Rattle.sp_closure.proofs.scratch.ClosureScratch.fill.Goals as goal
 
-pub timestamp_of-requires-clause-reach : goal.timestamp_of-requires-clause-reach
-timestamp_of-requires-clause-reach g c =
-    let s = c.args.index.now.events in
-    let slots = slots_of c.args.requirements.now.threads in
-    let has = subst (λ xs. HasPrefix xs c.args.at c.in-Some.prefix) c.as_slice.ensures.value c.in-Some.ensures in
-    subst (λ (z : ThreadPrefix). HasFirst s slots z.slot z.count) (sym has.is)
-    ((c.requires.timelines c.args.at.number has.timeline has.timeline_at).reach c.args.at.entry has.timestamp has.timestamp_at)
-
-pub returns-in_default : goal.returns-in_default
-returns-in_default g c = c.requires
-
-pub returns-in_err-fronts : goal.returns-in_err-fronts
-returns-in_err-fronts g c = record { scratch = c.timestamp_of.ensures.scratch; timelines = c.requires.timelines }
+pub close_prefix-requires-clause-reach : goal.close_prefix-requires-clause-reach
+close_prefix-requires-clause-reach g c =
+    let has = c.in-Some.ensures in
+    subst (HasPlaces c.args.index.now.events (slots_of c.args.requirements.now.threads)) (sym has.is) (c.requires.timelines.stamped c.args.entry has.timestamp has.at).reach
 
 pub returns : goal.returns
 returns g c =
     let s = c.args.index.now.events in
-    let timelines = c.args.timelines.now.items in
-    let d = c.args.requirements.now in
-    let slots = slots_of d.threads in
-    let has = subst (λ xs. HasPrefix xs c.args.at c.in-Some.prefix) c.as_slice.ensures.value c.in-Some.ensures in
-    let puts = subst (λ xs. PutsAt xs c.args.at c.in_ok-fronts.fronts c.put_at.new.timelines) c.as_mut_slice.ensures.value c.put_at.ensures in
-    let same = ap length puts.put ∙ length-set timelines c.args.at.number puts.other in
-    let back = written c.args.timelines.now.len c.put_at.new.timelines _ (c.args.timelines.now.ok.0 ∙ sym same) in
+    let slots = slots_of c.args.requirements.now.threads in
+    let z = c.close_prefix.new.self in
+    let old = c.args.timestamps.now in
+    let new = c.put.new.self in
+    let front = front_of z.none z.base.overlay in
+    let has = c.in-Some.ensures in
     record {
-      scratch = c.timestamp_of.ensures.scratch;
-      timelines = subst (AreTimelines s slots) (sym back)
-          (timelines_put s slots timelines c.put_at.new.timelines c.args.at c.in-Some.prefix c.in_ok-fronts.fronts c.requires.timelines has c.in_ok-fronts.ensures.timestamp puts);
+      scratch = c.close_prefix.ensures.scratch;
+      timelines = elim c.put.ensures [
+        | inl stays ↦ timelines_stay s slots old new c.requires.timelines stays
+        | inr puts ↦
+            let same : has.timestamp ≡ puts.timestamp = same_Some has.timestamp puts.timestamp (sym has.at ∙ puts.at) in
+            let prefix : c.in-Some.prefix ≡ puts.timestamp.prefix = has.is ∙ ap (λ (x : Timestamp). x.prefix) same in
+            timelines_put s slots old new c.args.entry front c.requires.timelines puts
+            (subst (λ (p : ThreadPrefix). (set : Places) → IsClosed s set → HoldsPlaces s slots p set → (a : ℕ) → HoldsFirst s slots set a (front a)) prefix c.in_ok-close_prefix.ensures.base.least)
+      ];
     }
