@@ -141,3 +141,9 @@ zeros_none j e h = absurd (none-some e h)
 pub zeros_more : (xs : List ℕ) → ((j e : ℕ) → slice_get xs j ≡ Some e → e ≡ 0) → (j e : ℕ) → slice_get (0 ∷ xs) j ≡ Some e → e ≡ 0
 zeros_more xs zeros zero e h = sym (same_Some 0 e h)
 zeros_more xs zeros (suc j) e h = zeros j e h
+
+-- No closed set stops before the first entries.
+pub all_zeros : (timestamps : Timestamps) (numbers : List ℕ) → AllFrom timestamps numbers (0 ∷ 0 ∷ 0 ∷ 0 ∷ 0 ∷ 0 ∷ 0 ∷ 0 ∷ [])
+all_zeros timestamps numbers = λ s are set closed stop. all_from_none s timestamps are numbers (0 ∷ 0 ∷ 0 ∷ 0 ∷ 0 ∷ 0 ∷ 0 ∷ 0 ∷ []) set
+    (zeros_more (0 ∷ 0 ∷ 0 ∷ 0 ∷ 0 ∷ 0 ∷ 0 ∷ []) (zeros_more (0 ∷ 0 ∷ 0 ∷ 0 ∷ 0 ∷ 0 ∷ []) (zeros_more (0 ∷ 0 ∷ 0 ∷ 0 ∷ 0 ∷ []) (zeros_more (0 ∷ 0 ∷ 0 ∷ 0 ∷ [])
+    (zeros_more (0 ∷ 0 ∷ 0 ∷ []) (zeros_more (0 ∷ 0 ∷ []) (zeros_more (0 ∷ []) (zeros_more [] zeros_none))))))))

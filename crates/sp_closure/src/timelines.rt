@@ -8,6 +8,7 @@ ghost use Rattle.std.specs.Prelude.{◌≡◌, ℕ, ◌⊎◌, ◌<◌, ◌≤�
 ghost use Rattle.trace_model.specs.Theory.Trace.{Trace};
 ghost use Rattle.trace_model.specs.Theory.Cycles.{IsConfirmed};
 ghost use Rattle.dependencies.specs.Tables.{AreDependencyNumbers};
+ghost use Rattle.fronts.specs.Members.{Each};
 ghost use Rattle.sp_closure.specs.declared.timelines.Timestamp.{Timestamp};
 ghost use Rattle.sp_closure.specs.Timestamps.{AreTimestamps, AllFrom, AllHold, Counts, EndsAt, HasEntry, HasEntryAt, HasTimeline, Moves, StayFrom};
 
@@ -57,6 +58,12 @@ pub(crate) struct Pointer {
     pub(crate) number: u32,
     pub(crate) entry: usize,
 }
+
+/// The timestamp of an unknown place.
+const UNKNOWN: Timestamp = Timestamp {
+    prefix: ThreadPrefix { slot: 0, count: 0 },
+    clock: None,
+};
 
 /// The maximum number of rounds in which all members of a cycle are advanced.
 const MAX_ROUNDS: usize = 4096;
@@ -149,7 +156,7 @@ impl Timestamps {
 
     /// Advances member `j` past the clock of `by`. Returns whether it advanced, or `None` if it has
     /// no further place.
-    fn move_one(
+    fn advance(
         &self,
         numbers: &[u32],
         entries: &mut [usize],
@@ -171,54 +178,116 @@ impl Timestamps {
         Some(entry != of.entry)
     }
 
+    /// Sets the timestamp of member `j` to the one of its entry, if that is known.
+    fn stamp(&self, numbers: &[u32], entries: &[usize], stamps: &mut [Timestamp], j: usize)
+        requires of { (j < length numbers.now) × (j < length entries.now) }
+        requires room { j < length stamps.old }
+        requires from { AllFrom self.now numbers.now entries.now }
+        requires held { Each (AllHold self.now numbers.now) stamps.old }
+        ensures length { length stamps.new ≡ length stamps.old }
+        ensures held { Each (AllHold self.now numbers.now) stamps.new }
+    {
+        let at = Pointer {
+            number: numbers[j],
+            entry: entries[j],
+        };
+        if let Some(timestamp) = self.entry(at) {
+            stamps[j] = timestamp;
+        }
+    }
+
+    /// Sets the timestamps of all members to those of their entries, as far as they are known.
+    fn stamp_all(&self, numbers: &[u32], entries: &[usize], stamps: &mut [Timestamp])
+        requires members { length numbers.now ≤ length entries.now }
+        requires room { length numbers.now ≤ length stamps.old }
+        requires from { AllFrom self.now numbers.now entries.now }
+        requires held { Each (AllHold self.now numbers.now) stamps.old }
+        ensures length { length stamps.new ≡ length stamps.old }
+        ensures held { Each (AllHold self.now numbers.now) stamps.new }
+    {
+        for j in 0..numbers.len() {
+            self.stamp(numbers, entries, stamps, j);
+        }
+    }
+
+    /// Advances member `j` past the clock of `by`, if that counts its place. Returns whether it
+    /// advanced, or `None` if it has no further place.
+    fn move_one(
+        &self,
+        numbers: &[u32],
+        entries: &mut [usize],
+        stamps: &mut [Timestamp],
+        by: Timestamp,
+        j: usize,
+    ) -> Option<bool>
+        requires of { (j < length numbers.now) × (j < length entries.old) }
+        requires room { j < length stamps.old }
+        requires from { AllFrom self.now numbers.now entries.old }
+        requires by { AllHold self.now numbers.now by }
+        requires held { Each (AllHold self.now numbers.now) stamps.old }
+        ensures length { (length entries.new ≡ length entries.old)
+            × (length stamps.new ≡ length stamps.old) }
+        ensures from { StayFrom self.now numbers.now entries.new result }
+        ensures held { Each (AllHold self.now numbers.now) stamps.new }
+    {
+        let prefix = stamps[j].prefix;
+        if self.count_of(by, prefix.slot) <= prefix.count {
+            return Some(false);
+        }
+        let went = self.advance(numbers, entries, by, j)?;
+        self.stamp(numbers, entries, stamps, j);
+        Some(went)
+    }
+
     /// Advances each member past the clock of `by`. Returns whether one advanced, or `None` if one
     /// has no further place.
-    fn move_past(&self, numbers: &[u32], entries: &mut [usize], by: Timestamp) -> Option<bool>
-        requires room { length numbers.now ≤ length entries.old }
+    fn move_past(
+        &self,
+        numbers: &[u32],
+        entries: &mut [usize],
+        stamps: &mut [Timestamp],
+        by: Timestamp,
+    ) -> Option<bool>
+        requires members { length numbers.now ≤ length entries.old }
+        requires room { length numbers.now ≤ length stamps.old }
         requires from { AllFrom self.now numbers.now entries.old }
-        requires held { AllHold self.now numbers.now by }
-        ensures length { length entries.new ≡ length entries.old }
+        requires by { AllHold self.now numbers.now by }
+        requires held { Each (AllHold self.now numbers.now) stamps.old }
+        ensures length { (length entries.new ≡ length entries.old)
+            × (length stamps.new ≡ length stamps.old) }
         ensures from { StayFrom self.now numbers.now entries.new result }
+        ensures held { Each (AllHold self.now numbers.now) stamps.new }
     {
         let mut went = false;
         for j in 0..numbers.len() {
-            if self.move_one(numbers, entries, by, j)? {
+            if self.move_one(numbers, entries, stamps, by, j)? {
                 went = true;
             }
         }
         Some(went)
     }
 
-    /// Advances each member past the timestamp of member `i`. Returns whether one advanced, or
-    /// `None` if one has no further place.
-    fn move_by(&self, numbers: &[u32], entries: &mut [usize], i: usize) -> Option<bool>
-        requires by { i < length numbers.now }
-        requires room { length numbers.now ≤ length entries.old }
-        requires from { AllFrom self.now numbers.now entries.old }
-        ensures length { length entries.new ≡ length entries.old }
-        ensures from { StayFrom self.now numbers.now entries.new result }
-    {
-        let at = Pointer {
-            number: numbers[i],
-            entry: entries[i],
-        };
-        match self.entry(at) {
-            Some(by) => self.move_past(numbers, entries, by),
-            None => Some(false),
-        }
-    }
-
     /// Advances each member past the timestamp of each other member. Returns whether one advanced,
     /// or `None` if one has no further place.
-    fn move_all(&self, numbers: &[u32], entries: &mut [usize]) -> Option<bool>
-        requires room { length numbers.now ≤ length entries.old }
+    fn move_all(
+        &self,
+        numbers: &[u32],
+        entries: &mut [usize],
+        stamps: &mut [Timestamp],
+    ) -> Option<bool>
+        requires members { length numbers.now ≤ length entries.old }
+        requires room { length numbers.now ≤ length stamps.old }
         requires from { AllFrom self.now numbers.now entries.old }
-        ensures length { length entries.new ≡ length entries.old }
+        requires held { Each (AllHold self.now numbers.now) stamps.old }
+        ensures length { (length entries.new ≡ length entries.old)
+            × (length stamps.new ≡ length stamps.old) }
         ensures from { StayFrom self.now numbers.now entries.new result }
+        ensures held { Each (AllHold self.now numbers.now) stamps.new }
     {
         let mut went = false;
         for i in 0..numbers.len() {
-            if self.move_by(numbers, entries, i)? {
+            let by = stamps[i];
+            if self.move_past(numbers, entries, stamps, by)? {
                 went = true;
             }
         }
@@ -234,11 +303,13 @@ impl Timestamps {
             IsConfirmed s numbers.now → ⊥ }
     {
         let mut entries = [0; MAX_MEMBERS];
+        let mut stamps = [UNKNOWN; MAX_MEMBERS];
         if numbers.len() > MAX_MEMBERS {
             return false;
         }
+        self.stamp_all(numbers, &entries, &mut stamps);
         for _round in 0..MAX_ROUNDS {
-            match self.move_all(numbers, &mut entries) {
+            match self.move_all(numbers, &mut entries, &mut stamps) {
                 None => return true,
                 Some(false) => return false,
                 Some(true) => {}

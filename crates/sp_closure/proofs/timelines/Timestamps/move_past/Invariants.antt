@@ -1,6 +1,12 @@
 use Rattle.std.proofs.Common.{◌≡◌, length}
-use Rattle.sp_closure.specs.Timestamps.{AllFrom}
+use Rattle.fronts.specs.Members.{Each}
+use Rattle.sp_closure.specs.Timestamps.{AllFrom, AllHold}
 use Rattle.sp_closure.proofs.timelines.Timestamps.move_past.Given as goal
 
 abbrev pub invariant-loop-j : goal.invariant-loop-j
-invariant-loop-j l = (length l.entries ≡ length l.fn.entries) × AllFrom l.fn.self l.fn.numbers l.entries
+invariant-loop-j l = record {
+  entries : length l.entries ≡ length l.fn.entries;
+  stamps : length l.stamps ≡ length l.fn.stamps;
+  from : AllFrom l.fn.self l.fn.numbers l.entries;
+  held : Each (AllHold l.fn.self l.fn.numbers) l.stamps;
+}

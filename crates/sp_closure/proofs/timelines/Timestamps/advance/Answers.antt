@@ -2,7 +2,7 @@ use Rattle.std.proofs.Common.{Some, None, get_or, sym, subst}
 use Rattle.sp_closure.specs.Timestamps.{StayFrom}
 use Rattle.std.proofs.lemmas.Option.{slice_get-get_or}
 use Rattle.sp_closure.proofs.TimelineLemmas.{one_moved}
-use Rattle.sp_closure.proofs.timelines.Timestamps.move_one.Goals as goal
+use Rattle.sp_closure.proofs.timelines.Timestamps.advance.Goals as goal
 
 pub returns-in_err-entry-clause-from : goal.returns-in_err-entry-clause-from
 returns-in_err-entry-clause-from c =
