@@ -5,11 +5,13 @@ ghost use Rattle.std.specs.List.{Contains};
 ghost use Rattle.trace_model.specs.Theory.Closure.{IsClosure};
 ghost use Rattle.trace_model.specs.Theory.Trace.{Trace};
 ghost use Rattle.trace_model.specs.Theory.Dependencies.{dependencies};
-ghost use Rattle.dependencies.specs.Tables.{table_dependencies, AreDependencyNumbers, NumbersWholeTrace};
+ghost use Rattle.dependencies.specs.Tables.{dependency_places, AreDependencyNumbers, NumbersWholeTrace};
 ghost use Rattle.fronts.specs.declared.requirements.ThreadPrefix.{ThreadPrefix};
 ghost use Rattle.fronts.specs.Requirements.{AreRequirements};
 ghost use Rattle.fronts.specs.Overlays.{IsEmptyFor};
 ghost use Rattle.fronts.specs.Slots.{slots_of, HasPlaces, HasFronts};
+ghost use Rattle.sp_closure.specs.Entering.{IsFirstMember};
+ghost use Rattle.sp_closure.specs.Pointers.{IsFirstPlace};
 ghost use Rattle.sp_closure.specs.Reaching.{FindsPlaces, FindsLeast};
 ghost use Rattle.fronts.specs.State.{included_set, size_in};
 ghost use Rattle.sp_closure.specs.Scratches.{IsScratch, IsOnPrefix, IsBaseFor, HasBase, kept_places, KeepsFor, KeepsNothing, CountsBut, PlacesStay, base_total, upper_front, upper_places, upper_total};
@@ -18,7 +20,9 @@ use crate::add_member::first_member;
 use crate::base::{Base, make_base, new_propagation, over_base};
 use crate::reach::reach_all;
 use dependencies::DepTable;
-use fronts::{Context, Fronts, Overlay, Propagation, Requirements, Steps, ThreadPrefix, gathered};
+use fronts::{
+    Context, Fronts, Member, Overlay, Propagation, Requirements, Steps, ThreadPrefix, gathered,
+};
 use std::alloc::Global;
 use std::mem;
 use std::sync::Arc;
@@ -196,7 +200,8 @@ impl ClosureScratch {
         Ok(())
     }
 
-    /// Makes the present base the closure of the places before the first place of the dependency.
+    /// Makes the present base the closure of the places before the first place of the dependency,
+    /// at which `first` is.
     ///
     /// # Errors
     /// `NoMemory` if an allocation fails.
@@ -206,11 +211,14 @@ impl ClosureScratch {
         requirements: &Requirements,
         table: &DepTable,
         number: u32,
+        first: &Member<'_>,
         steps: &mut Steps<L>,
     ) -> Result<(), NoMemory>
         requires scratch { IsScratch index.now.events requirements.now self.old }
         requires one_trace { NumbersWholeTrace table.now index.now.events }
-        requires known { number < length (table_dependencies table.now) }
+        requires member { IsFirstMember index.now.events (slots_of requirements.now.threads)
+            (dependency_places table.now number) first.now }
+        requires first { IsFirstPlace index.now.events number first.now.place }
         ensures scratch { IsScratch index.now.events requirements.now self.new }
         ensures base { OnOk result
             (IsBaseFor index.now.events requirements.now self.new.none number
@@ -218,10 +226,11 @@ impl ClosureScratch {
         ensures counted { CountsBut (PlacesStay index.now.events requirements.now self.old number)
             steps.old steps.new (base_total requirements.now self.new) }
     {
-        let member = first_member(index, &requirements.threads, table, number);
+        let _ = table; // for the proof
+        let _ = number; // for the proof
         let prefix = ThreadPrefix {
-            slot: member.slot,
-            count: member.number,
+            slot: first.slot,
+            count: first.number,
         };
         self.base_on(index, requirements, prefix, steps)
     }
@@ -256,7 +265,7 @@ impl ClosureScratch {
         let _len = index.len(); // for the proof
         let first = first_member(index, &requirements.threads, table, numbers[0]);
         self.turn_to(index, requirements, first.slot)?;
-        self.rebase(index, requirements, table, numbers[0], steps)?;
+        self.rebase(index, requirements, table, numbers[0], &first, steps)?;
         over_base(
             self.alloc,
             index,

@@ -17,11 +17,11 @@ first_member-first-requires g c =
 
 pub rebase-requires : goal.rebase-requires
 rebase-requires g c =
-    let xs = c.args.numbers.now in
     record {
       scratch = c.turn_to.ensures.scratch;
       one_trace = c.requires.one_trace;
-      known = subst (λ ds. get_or xs 0 0 < length ds) (sym c.requires.one_trace.0) (c.requires.known 0 (get_or xs 0 0) (slice_get-get_or xs 0 0 c.requires.some));
+      member = c.first_member-first.ensures.member;
+      first = c.first_member-first.ensures.first;
     }
 
 pub over_base-requires : goal.over_base-requires

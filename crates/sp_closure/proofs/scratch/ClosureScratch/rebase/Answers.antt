@@ -10,16 +10,16 @@ use Rattle.sp_closure.proofs.scratch.ClosureScratch.rebase.Goals as goal
 pub base_on-requires-clause-reach : goal.base_on-requires-clause-reach
 base_on-requires-clause-reach g c =
     let d = c.args.requirements.now in
-    let m = c.first_member-member.result in
+    let m = c.args.first.now in
     has_before c.args.index.now.events (slots_of d.threads) d.threads.count m.place m.slot m.number
-    c.requires.scratch.requirements.slots c.first_member-member.ensures.member.is_member.positions
+    c.requires.scratch.requirements.slots c.requires.member.is_member.positions
 
 pub returns-clause-base : goal.returns-clause-base
 returns-clause-base g c =
     let s = c.args.index.now.events in
     let d = c.args.requirements.now in
-    let m = c.first_member-member.result in
-    let first = c.first_member-member.ensures.member in
+    let m = c.args.first.now in
+    let first = c.requires.member in
     on_ok_map_unit c.base_on.result c.base_on.ensures.base (λ base. record {
       consistent = base.consistent;
       least = λ set q closed number stop.

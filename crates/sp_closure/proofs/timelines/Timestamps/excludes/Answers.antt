@@ -1,5 +1,4 @@
-use Rattle.std.proofs.Common.{[], ◌∷◌, refl}
-use Rattle.sp_closure.specs.Timestamps.{AllFrom}
+use Rattle.std.proofs.Common.{refl}
 use Rattle.sp_closure.proofs.TimelineLemmas.{all_zeros}
 use Rattle.sp_closure.proofs.LeastLemmas.{none_confirmed}
 use Rattle.sp_closure.proofs.timelines.Timestamps.excludes.Goals as goal
