@@ -13,7 +13,7 @@ use Rattle.sp_closure.specs.declared.timelines.Pointer.{Pointer}
 use Rattle.fronts.specs.Slots.{HasSlotPosition, HoldsFirst}
 use Rattle.fronts.specs.Members.{EndsBefore}
 use Rattle.sp_closure.specs.Pointers.{NumberAt}
-use Rattle.sp_closure.specs.Timestamps.{AllFrom, AllHold, AreTimestamps, AreFrom, Counts, HasEntry, HasEntryAt, HasTimeline, HoldsCounted, IsTimeline, Moves, NoneStops, IsEntryAt, StopsFrom, StopsFromAt, StopsNowhere}
+use Rattle.sp_closure.specs.Timestamps.{AllFrom, AllHold, AreTimestamps, AreFrom, ClockCounts, HasEntry, HasEntryAt, HasTimeline, HoldsCounted, IsTimeline, Moves, NoneStops, IsEntryAt, StopsFrom, StopsFromAt, StopsNowhere}
 use Rattle.fronts.proofs.SlotLemmas.{position_before}
 
 -- A closed set that stops at none of the pointer's places before its entry contains what the
@@ -100,13 +100,13 @@ all_from_none s timestamps are numbers entries set first = record {
 
 -- The pointer advances to the first entry after the timestamp, or has none.
 pub moves_after : (timestamps : Timestamps) (by : Timestamp) (of : Pointer) (timeline : Timeline) (x : Timestamp) (count : ℕ) (result : Option ℕ) → HasTimeline timestamps of.number timeline →
-    HasEntry timestamps.entries.items timeline of.entry x → (count ≡ 0) ⊎ Counts timestamps.threads timestamps.fronts.items by x.prefix.slot count →
+    HasEntry timestamps.entries.items timeline of.entry x → (count ≡ 0) ⊎ ClockCounts timestamps.threads timestamps.fronts.items by x.prefix.slot count →
     ((k : ℕ) (y : Timestamp) → HasEntry timestamps.entries.items timeline k y → of.entry ≤ k → count ≤ y.prefix.count → MatchOption result ⊥ (λ e. e ≤ k)) → Moves timestamps by of result
 moves_after timestamps by of timeline x count result found here_at has next = λ s are set holds from_of.
     go s are.slots set result
     (next_from s are.slots set timestamps.entries.items timeline of x count result (are.are.each of.number timeline found) here_at (held s are.slots set holds has) (from_of timeline found) next)
   where
-    held : (s : Trace) (slots : ℕ → Option ℕ) (set : Places) → HoldsCounted s slots timestamps by set → (count ≡ 0) ⊎ Counts timestamps.threads timestamps.fronts.items by x.prefix.slot count →
+    held : (s : Trace) (slots : ℕ → Option ℕ) (set : Places) → HoldsCounted s slots timestamps by set → (count ≡ 0) ⊎ ClockCounts timestamps.threads timestamps.fronts.items by x.prefix.slot count →
         HoldsFirst s slots set x.prefix.slot count
     held s slots set holds (inl none) = λ p n positions less. absurd (omega (arith, none, less))
     held s slots set holds (inr counts) = holds x.prefix.slot count counts

@@ -18,7 +18,7 @@ use Rattle.sp_closure.specs.declared.timelines.Timestamp.{Timestamp}
 use Rattle.sp_closure.specs.declared.timelines.Timeline.{Timeline}
 use Rattle.sp_closure.specs.declared.timelines.Timestamps.{Timestamps}
 use Rattle.fronts.specs.Slots.{AreSlots, HasSlotPosition, HoldsFirst, HoldsPlaces}
-use Rattle.sp_closure.specs.Timestamps.{AddsFronts, AddsTimeline, AreTimelines, HasEntry, IsEntryAt, IsFresh, IsPartOf, IsTimeline, IsTimestamp, Puts, Stays}
+use Rattle.sp_closure.specs.Timestamps.{AddsFronts, AddsTimeline, AreTimelines, HasEntry, IsEntryAt, IsFresh, IsWithinPrefix, IsTimeline, IsTimestamp, Puts, Stays}
 use Rattle.fronts.proofs.BuildLemmas.{each_pushed, length_pushed}
 use Rattle.fronts.proofs.SlotLemmas.{has_before, before_position}
 use Rattle.sp_closure.proofs.PointerLemmas.{number_thread}
@@ -151,7 +151,7 @@ timeline_put s slots m old i was new timeline found prefix is = record {
   ascend = λ j k x y le hx hy.
       let (v, hv, same_v) = before j x hx in
       let (w, hw, same_w) = before k y hy in
-      subst (λ a. IsPartOf a y.prefix) same_v (subst (IsPartOf v.prefix) same_w (is.ascend j k v w le hv hw));
+      subst (λ a. IsWithinPrefix a y.prefix) same_v (subst (IsWithinPrefix v.prefix) same_w (is.ascend j k v w le hv hw));
 }
   where
     before : (k : ℕ) (x : Timestamp) → HasEntry (slice_set old i new) timeline k x → (z : Timestamp) × HasEntry old timeline k z × (z.prefix ≡ x.prefix)

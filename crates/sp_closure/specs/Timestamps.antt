@@ -20,8 +20,9 @@ pub record HasEntry (entries : List Timestamp) (timeline : Timeline) (k : ℕ)
   pub at : slice_get entries (timeline.first + k) ≡ Some x
 
 -- The timeline has no entry from `k` on.
-abbrev pub EndsAt : List Timestamp → Timeline → ℕ → Type 0
-EndsAt entries timeline k = (i : ℕ) (x : Timestamp) → k ≤ i → HasEntry entries timeline i x → ⊥
+abbrev pub HasNoEntryFrom : List Timestamp → Timeline → ℕ → Type 0
+HasNoEntryFrom entries timeline k = (i : ℕ) (x : Timestamp) → k ≤ i →
+    HasEntry entries timeline i x → ⊥
 
 -- The place is entry `k` of the timeline.
 pub record IsEntryAt (s : Trace) (slots : ℕ → Option ℕ) (entries : List Timestamp)
@@ -31,7 +32,7 @@ pub record IsEntryAt (s : Trace) (slots : ℕ → Option ℕ) (entries : List Ti
   pub positions : HasSlotPosition s slots q timestamp.prefix.slot timestamp.prefix.count
 
 -- The places of the one prefix are among those of the other one, which is of the same thread.
-pub record IsPartOf (part whole : ThreadPrefix) : Type 0 where
+pub record IsWithinPrefix (part whole : ThreadPrefix) : Type 0 where
   pub slot : part.slot ≡ whole.slot
   pub count : part.count ≤ whole.count
 
@@ -41,10 +42,10 @@ pub record IsTimeline (s : Trace) (slots : ℕ → Option ℕ) (entries : List T
   pub inside : timeline.first + timeline.count ≤ length entries
   pub places : (q : ℕ) → NumberAt s q m → (k : ℕ) × IsEntryAt s slots entries timeline k q
   pub ascend : (i k : ℕ) (x y : Timestamp) → i ≤ k → HasEntry entries timeline i x →
-      HasEntry entries timeline k y → IsPartOf x.prefix y.prefix
+      HasEntry entries timeline k y → IsWithinPrefix x.prefix y.prefix
 
 -- The clock of the timestamp has this number of places of the slot.
-pub record Counts (threads : ℕ) (fronts : List ℕ) (x : Timestamp)
+pub record ClockCounts (threads : ℕ) (fronts : List ℕ) (x : Timestamp)
     (slot front : ℕ) : Type 0 where
   pub clock : ℕ
   pub is : x.clock ≡ Some clock
@@ -63,7 +64,7 @@ pub record IsTimestamp (s : Trace) (slots : ℕ → Option ℕ) (threads : ℕ) 
     (x : Timestamp) : Type 0 where
   pub reach : HasPlaces s slots x.prefix
   pub inside : ForSome x.clock (λ clock. clock + threads ≤ length fronts)
-  pub bound : IsLowerBound s slots x.prefix (Counts threads fronts x)
+  pub bound : IsLowerBound s slots x.prefix (ClockCounts threads fronts x)
 
 -- The dependency has this timeline.
 abbrev pub HasTimeline : Timestamps → ℕ → Timeline → Type 0
@@ -131,7 +132,7 @@ pub record HasEntryAt (timestamps : Timestamps) (at : Pointer) (x : Timestamp) :
 -- The set contains the places that the clock of the timestamp counts.
 abbrev pub HoldsCounted : Trace → (ℕ → Option ℕ) → Timestamps → Timestamp → Places → Type 0
 HoldsCounted s slots timestamps x set = (a n : ℕ) →
-    Counts timestamps.threads timestamps.fronts.items x a n → HoldsFirst s slots set a n
+    ClockCounts timestamps.threads timestamps.fronts.items x a n → HoldsFirst s slots set a n
 
 -- The same for each closed set that stops at a place of each member.
 abbrev pub AllHold : Timestamps → List ℕ → Timestamp → Type 0

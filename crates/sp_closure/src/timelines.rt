@@ -10,7 +10,7 @@ ghost use Rattle.trace_model.specs.Theory.Cycles.{IsConfirmed};
 ghost use Rattle.dependencies.specs.Tables.{AreDependencyNumbers};
 ghost use Rattle.fronts.specs.Members.{Each};
 ghost use Rattle.sp_closure.specs.declared.timelines.Timestamp.{Timestamp};
-ghost use Rattle.sp_closure.specs.Timestamps.{AreTimestamps, AllFrom, AllHold, Counts, EndsAt, HasEntry, HasEntryAt, HasTimeline, Moves, StayFrom};
+ghost use Rattle.sp_closure.specs.Timestamps.{AreTimestamps, AllFrom, AllHold, ClockCounts, HasNoEntryFrom, HasEntry, HasEntryAt, HasTimeline, Moves, StayFrom};
 
 use fronts::ThreadPrefix;
 use trace_model::MAX_MEMBERS;
@@ -81,7 +81,7 @@ impl Timestamps {
 
     /// Returns entry `entry` of the timeline, or `None` if it has no more entries.
     fn entry_of(&self, timeline: Timeline, entry: usize) -> Option<Timestamp>
-        ensures { MatchOption result (EndsAt self.now.entries.items timeline entry)
+        ensures { MatchOption result (HasNoEntryFrom self.now.entries.items timeline entry)
             (HasEntry self.now.entries.items timeline entry) }
     {
         if entry >= timeline.count as usize {
@@ -125,7 +125,7 @@ impl Timestamps {
     /// is unknown.
     fn count_of(&self, timestamp: Timestamp, slot: u32) -> u32
         ensures { (result ≡ 0) ⊎
-            Counts self.now.threads self.now.fronts.items timestamp slot result }
+            ClockCounts self.now.threads self.now.fronts.items timestamp slot result }
     {
         let Some(clock) = timestamp.clock else {
             return 0;
