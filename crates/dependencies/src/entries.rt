@@ -69,6 +69,14 @@ impl Entries {
         Ok(())
     }
 
+    /// Frees the hash map of the numbers, which `reserve` fills anew. Does not allocate.
+    pub(crate) fn free_numbers(&mut self)
+        ensures shown { listing_of self.new ≡ listing_of self.old }
+        ensures kept { AreRightEntries self.old → AreRightEntries self.new }
+    {
+        self.keys.free_numbers();
+    }
+
     /// Adds a place of the dependency, and returns its number. Memory must be reserved.
     #[inline(always)]
     pub(crate) fn record(&mut self, place: Place, dependency: Dependency) -> usize

@@ -142,6 +142,13 @@ impl Keys {
         }
     }
 
+    /// Frees the hash map, which `reserve` fills anew. Does not allocate.
+    pub(crate) fn free_numbers(&mut self)
+        ensures { self.new.keys ≡ self.old.keys }
+    {
+        self.numbers = HashedNumbers::new(self.alloc);
+    }
+
     /// Completes the hash map, and reserves memory for one more dependency.
     pub(crate) fn reserve(&mut self) -> Result<(), NoMemory>
         requires { length self.old.keys ≤ 4294967296 }

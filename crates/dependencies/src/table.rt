@@ -112,6 +112,15 @@ impl DepTable {
         self.entries.record(place, dependency) as u32
     }
 
+    /// Frees the memory by which the numbers of dependencies are found, for a table that is only
+    /// read from now on. The dependencies and places do not change. A later `reserve` allocates it
+    /// anew. Does not allocate.
+    pub fn free_numbers(&mut self)
+        ensures { self.new.shown ≡ self.old.shown }
+    {
+        self.entries.free_numbers();
+    }
+
     /// Returns the table of a prefix of the trace: the first `total` dependencies, with their
     /// places below `events`. `total` must be the number of dependencies with such a place.
     ///

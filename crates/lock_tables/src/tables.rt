@@ -167,7 +167,8 @@ impl LockTables {
         })
     }
 
-    /// Returns the dependencies and the graph of the whole trace.
+    /// Returns the dependencies and the graph of the whole trace, without the memory that only
+    /// later events need.
     ///
     /// # Errors
     ///
@@ -194,12 +195,13 @@ impl LockTables {
             alloc,
             state,
             held,
-            dependencies,
+            mut dependencies,
             graph,
             graphed: _,
             events: _,
         } = self;
         drop(held);
+        dependencies.free_numbers();
         match graph_or_new(alloc, state, graph) {
             Ok(graph) => Ok(LockParts {
                 dependencies,
