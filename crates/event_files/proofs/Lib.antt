@@ -15,3 +15,4 @@ pub mod ReadLines
 pub mod RefutationTexts
 pub mod StatedLines
 pub mod WitnessLines
+pub mod SplitLines

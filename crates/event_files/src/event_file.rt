@@ -192,6 +192,28 @@ fn later_lines(text: &[u8]) -> Option<&[u8]>
     Some(&text[place + 1..])
 }
 
+/// Splits a text at the first line feed that has at least `least` bytes before it. Returns the
+/// lines before the line feed, and those after it, or `None` if there is no such line feed.
+pub fn split_lines(text: &[u8], least: usize) -> (&[u8], Option<&[u8]>)
+    ensures lines { MatchOption result.1 (result.0.now ≡ text.now)
+        (λ rest. pieces_at 10 text.now ≡ pieces_at 10 result.0.now ++ pieces_at 10 rest.now) }
+    ensures shorter { IfSome result.1 (λ rest. length rest.now < length text.now) }
+{
+    for end in least..text.len() {
+        if text[end] == b'\n' {
+            return (&text[..end], Some(&text[end + 1..]));
+        }
+    }
+    (text, None)
+}
+
+/// Returns the number of lines of a text: one more than it has line feeds.
+pub fn line_count(text: &[u8]) -> usize
+    ensures { result ≡ length (pieces_at 10 text.now) }
+{
+    text.split(|byte| *byte == b'\n').count()
+}
+
 /// Returns whether a word can end before the text: at the end of the file or of a line, or before a
 /// space.
 #[inline(always)]

@@ -2,9 +2,10 @@
 //!
 //! [`read_events`] returns the first events of a file, at most one more than a trace may have; its
 //! contract says that they are the first of the events whose words are exactly those of the file.
-//! Start reading there; [`read_witness`] reads the input of the replay checker. [`push_refutation`]
-//! writes the sentences of a refutation. [`read_explained`] reads rows with their witnesses and
-//! refutations; its contract says that the lines of the file are exactly those of what it returns.
+//! Start reading there. [`split_lines`] cuts a file into blocks of lines. [`read_witness`] reads
+//! the input of the replay checker. [`push_refutation`] writes the sentences of a refutation.
+//! [`read_explained`] reads rows with their witnesses and refutations; its contract says that the
+//! lines of the file are exactly those of what it returns.
 #![tactic(auto)]
 
 mod event_file;
@@ -19,7 +20,9 @@ mod refused;
 mod refutation_text;
 mod witness_file;
 
-pub use event_file::{event, lines_of, push_events, read_events, words_of};
+pub use event_file::{
+    event, line_count, lines_of, push_events, read_events, split_lines, words_of,
+};
 pub use explained_file::read_explained;
 pub use explanations::{
     Evidence, Explained, ExplainedFile, ExplainedMember, ExplainedStep, ReportHead,
