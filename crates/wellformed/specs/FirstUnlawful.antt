@@ -1,10 +1,12 @@
 -- The first event of a list that the admission check refuses.
-use Rattle.std.specs.Prelude.{◌≡◌, take, Option, Some, None}
+use Rattle.std.specs.Prelude.{◌≡◌, ◌++◌, take, Option, Some, None}
 use Rattle.trace_model.specs.declared.limits.TheConstants.{MAX_EVENTS}
 use Rattle.trace_model.specs.declared.traces.event.Event.{Event}
 use Rattle.trace_model.specs.Theory.Trace.{Trace, At}
 use Rattle.trace_model.specs.Theory.Lawful.{refusal_of, IsWellFormed}
+use Rattle.wellformed.specs.declared.tables.AdmissionTables.{AdmissionTables}
 use Rattle.wellformed.specs.declared.whole_lists.FirstUnlawful.{FirstUnlawful}
+use Rattle.wellformed.specs.Tables.{FollowEvents}
 
 -- The events before the index are well formed, and the event at the index has this refusal after
 -- them.
@@ -18,3 +20,11 @@ IsFirstUnlawful s first =
 abbrev pub IsPassage : Trace → Option FirstUnlawful → Type 0
 IsPassage s None = IsWellFormed s
 IsPassage s (Some first) = IsFirstUnlawful s first
+
+-- The tables were `old` before the events and are `new` after them. Without a refusal they follow
+-- the old events with the new ones after them. A refusal is the first unlawful event of the old
+-- events followed by the new ones.
+abbrev pub Admits : AdmissionTables → Trace → AdmissionTables → Option FirstUnlawful → Type 0
+Admits old events new None = (s : Trace) → FollowEvents old s → FollowEvents new (s ++ events)
+Admits old events new (Some first) =
+    (s : Trace) → FollowEvents old s → IsFirstUnlawful (s ++ events) first

@@ -3,7 +3,8 @@
 //! [`AdmissionTables`] has what the admission check needs of the recorded events. `check` returns
 //! exactly the first refusal that applies, `reserve` allocates for an event, and `record` adds it
 //! without allocating. `admit` does all three and looks up the event's thread and lock once.
-//! [`first_unlawful`] admits a whole list. Start reading at [`AdmissionTables`].
+//! `admit_all` admits events up to the first that is not lawful, and [`first_unlawful`] finds that
+//! event in a whole list. Start reading at [`AdmissionTables`].
 //!
 //! Public API that the program does not call: [`Gate`], the gate with its list of events, and
 //! [`flat`], which tests that a trace has no inner acquire.

@@ -10,6 +10,7 @@ ghost use Rattle.trace_model.specs.Theory.Holders.{depth_by, is_other_owner};
 ghost use Rattle.trace_model.specs.Theory.Lawful.{is_fork, held_by_other, op_refusal_of, refusal_of};
 ghost use Rattle.wellformed.specs.Owners.{owner_in, op_owner};
 ghost use Rattle.wellformed.specs.Threads.{thread_in};
+ghost use Rattle.wellformed.specs.FirstUnlawful.{Admits};
 ghost use Rattle.wellformed.specs.Tables.{ArePositions, FollowEvents, HasAdmissionRoom, IsLawfulForGate};
 
 use crate::entries::{
@@ -18,10 +19,13 @@ use crate::entries::{
 };
 use crate::owners::Owners;
 use crate::threads::{ThreadEntry, Threads, thread_at, thread_entry};
+use crate::whole_lists::FirstUnlawful;
 use number_map::NumberMap;
 use std::alloc::Global;
 use std::hash::RandomState;
-use trace_model::{Event, MAX_DEPTH, MAX_FORKS, MAX_HELD, NoMemory, Op, Owner, Refusal};
+use trace_model::{
+    Event, MAX_DEPTH, MAX_EVENTS, MAX_FORKS, MAX_HELD, NoMemory, Op, Owner, Refusal,
+};
 
 /// The depth at which a thread holds a lock, and whether another thread holds the lock.
 #[derive(Clone, Copy)]
@@ -295,6 +299,30 @@ impl AdmissionTables {
         }
         self.record_at(event, positions, own, was);
         Ok(Ok(()))
+    }
+
+    /// Admits `events` one after the other, up to the first that is not lawful. Returns that event,
+    /// or `None` if all are lawful. At most `MAX_EVENTS` events are lawful.
+    ///
+    /// The returned index counts from the first event that the tables follow. After a refusal the
+    /// tables can only be dropped. The tables must be those of some events.
+    ///
+    /// # Errors
+    ///
+    /// `NoMemory` if an allocation fails. The tables can then only be dropped.
+    pub fn admit_all(&mut self, events: &[Event]) -> Result<Option<FirstUnlawful>, NoMemory>
+        requires following { (s : Trace) × FollowEvents self.old s }
+        ensures { IfOk result (Admits self.old events.now self.new) }
+    {
+        for event in events {
+            if let Err(refusal) = self.admit(MAX_EVENTS, event)? {
+                return Ok(Some(FirstUnlawful {
+                    index: self.count,
+                    refusal,
+                }));
+            }
+        }
+        Ok(None)
     }
 }
 

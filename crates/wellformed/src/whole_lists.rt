@@ -6,7 +6,7 @@ ghost use Rattle.wellformed.specs.FirstUnlawful.{IsPassage};
 use crate::tables::AdmissionTables;
 use std::alloc::Global;
 use std::hash::RandomState;
-use trace_model::{Event, MAX_EVENTS, NoMemory, Refusal};
+use trace_model::{Event, NoMemory, Refusal};
 
 /// The first event of a list that is not lawful after the events before it.
 #[derive(Clone, Copy, Debug, PartialEq, Eq)]
@@ -30,11 +30,5 @@ pub fn first_unlawful(
 ) -> Result<Option<FirstUnlawful>, NoMemory>
     ensures { IfOk result (IsPassage events.now) }
 {
-    let mut tables = AdmissionTables::new(alloc, state);
-    for (index, event) in events.iter().enumerate() {
-        if let Err(refusal) = tables.admit(MAX_EVENTS, event)? {
-            return Ok(Some(FirstUnlawful { index, refusal }));
-        }
-    }
-    Ok(None)
+    AdmissionTables::new(alloc, state).admit_all(events)
 }
