@@ -1,5 +1,5 @@
 -- Lock tables that follow a trace.
-use Rattle.std.specs.Prelude.{◌≡◌, ℕ, ◌≤◌, List, [], length, take, true, Option, Some, None}
+use Rattle.std.specs.Prelude.{◌≡◌, ℕ, ◌≤◌, ◌++◌, List, [], length, take, true, Option, Some, None}
 use Rattle.std.specs.declared.sync.Arc.{Arc}
 use Rattle.std.specs.declared.alloc.Global.{Global}
 use Rattle.lock_graph.specs.declared.graph.LockGraph.{LockGraph}
@@ -8,7 +8,7 @@ use Rattle.trace_model.specs.declared.traces.event.Event.{Event}
 use Rattle.trace_model.specs.declared.traces.event.Op.TheVariants.{Acquire}
 use Rattle.trace_model.specs.declared.limits.TheConstants.{MAX_EVENTS}
 use Rattle.trace_model.specs.Theory.Trace.{Trace}
-use Rattle.trace_model.specs.Theory.Lawful.{refusal_of}
+use Rattle.trace_model.specs.Theory.Lawful.{refusal_of, IsWellFormed}
 use Rattle.trace_model.specs.Theory.Dependencies.{Dependency, dependencies_below}
 use Rattle.held_sets.specs.Tables as Held
 use Rattle.dependencies.specs.Tables as Dependencies
@@ -47,6 +47,11 @@ pub record HasLockTableRoom (tables : LockTables) (e : Event) : Type 0 where
 -- The tables are those of some trace after which the event is lawful.
 abbrev pub IsLawfulForTables : LockTables → Event → Type 0
 IsLawfulForTables tables e = (s : Trace) × FollowTrace tables s × (refusal_of MAX_EVENTS s e ≡ None)
+
+-- The tables are those of some trace after which the events are lawful one after the other.
+abbrev pub AreLawfulForTables : LockTables → Trace → Type 0
+AreLawfulForTables tables events =
+    (s : Trace) × FollowTrace tables s × IsWellFormed (s ++ events)
 
 -- The first n events of the trace have `total` dependencies.
 pub record CountsBelow (s : Trace) (total n : ℕ) : Type 0 where

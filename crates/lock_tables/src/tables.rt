@@ -7,7 +7,7 @@ ghost use Rattle.trace_model.specs.Theory.Lawful.{IsWellFormed};
 ghost use Rattle.trace_model.specs.Theory.Dependencies.{Dependency as Triple};
 ghost use Rattle.dependencies.specs.Tables.{table_dependencies};
 ghost use Rattle.lock_graph.specs.Graph.{IsGraphOf, HasGraphOf, holders};
-ghost use Rattle.lock_tables.specs.Tables.{shared_holders, FollowTrace, HasLockTableRoom, IsLawfulForTables, HasTotal, CountsBelow, AreLockPartsOf};
+ghost use Rattle.lock_tables.specs.Tables.{shared_holders, FollowTrace, HasLockTableRoom, IsLawfulForTables, AreLawfulForTables, HasTotal, CountsBelow, AreLockPartsOf};
 
 use crate::parts::LockParts;
 use crate::steps::{
@@ -68,13 +68,25 @@ impl LockTables {
         ensures { IfOk result (λ tables. FollowTrace tables events.now) }
     {
         let mut tables = LockTables::new(alloc, state);
-        match tables.record_all(events) {
-            Ok(()) => Ok(tables),
-            Err(refused) => {
-                drop(tables);
-                Err(refused)
-            }
+        tables.extend(events)?;
+        Ok(tables)
+    }
+
+    /// Adds `events`, which must be lawful one after the other after those of the tables, and
+    /// allocates memory for them.
+    ///
+    /// # Errors
+    ///
+    /// `NoMemory` if an allocation fails. The tables can then only be dropped.
+    pub fn extend(&mut self, events: &[Event]) -> Result<(), NoMemory>
+        requires { AreLawfulForTables self.old events.now }
+        ensures { OnOk result ((s : Trace) → FollowTrace self.old s →
+            FollowTrace self.new (s ++ events.now)) }
+    {
+        for event in events {
+            self.append(event)?;
         }
+        self.catch_up()
     }
 
     /// Returns the number of dependencies. Does not allocate.
@@ -212,19 +224,6 @@ impl LockTables {
                 Err(refused)
             }
         }
-    }
-
-    /// Records all of `events` from the empty trace.
-    fn record_all(&mut self, events: &[Event]) -> Result<(), NoMemory>
-        requires lawful { IsWellFormed events.now }
-        requires empty { FollowTrace self.old [] }
-        ensures { OnOk result (FollowTrace self.new events.now) }
-    {
-        for event in events {
-            self.append(event)?;
-        }
-        self.catch_up()?;
-        Ok(())
     }
 
     /// Records `event`, which must be the next lawful event, and allocates memory for it. The graph
