@@ -38,7 +38,7 @@ MADE = {
 }
 # The functions that make a count of their own, since their callers ask for none. `close`, `least_instance` and `snapshot_counted` add to
 # the count that they are given.
-COUNTED = ("least_of", "make_timestamps", "snapshot_of", "record_in", "build_counted")
+COUNTED = ("least_of", "make_timestamps", "snapshot_of", "record_in", "extend_counted")
 # the word, its crate, and the functions that may use it
 RESERVED = [
     (r"\bBoardReader::new\(", "board", ("make_readers",)),

@@ -22,7 +22,7 @@ mod row;
 mod segment_tables;
 mod share;
 
-ghost use Rattle.std.specs.Prelude.{◌≡◌, ℕ, ◌<◌, ◌≤◌, ◌↔◌, ◌++◌, ◌∷◌, [], length, take, slice_get, Some, IfOk};
+ghost use Rattle.std.specs.Prelude.{◌≡◌, ℕ, ◌<◌, ◌≤◌, ◌↔◌, ◌++◌, ◌∷◌, [], length, take, slice_get, Some, IfOk, OnOk};
 ghost use Rattle.trace_model.specs.declared.limits.TheConstants.{MAX_EVENTS};
 ghost use Rattle.trace_model.specs.declared.traces.event.Op.TheVariants.{Fork};
 ghost use Rattle.trace_model.specs.Theory.Trace.{Does};
@@ -80,28 +80,6 @@ fn taken_in(row: &IndexRow) -> Option<Place>
     }
 }
 
-/// Returns the index of a trace, and counts its events.
-fn build_counted<L: Ledger>(
-    alloc: Global,
-    state: RandomState,
-    events: &[Event],
-    blank: Blank,
-) -> Result<TraceIndex, NoMemory>
-    requires trace { IsWellFormed events.now }
-    requires name { blank.name ≡ L.name }
-    requires parts { blank.parts ≡ L.parts }
-    requires some { 0 < L.parts }
-    ensures { IfOk result (λ index. index.events ≡ events.now) }
-{
-    let mut copies = Steps::<L>::new(blank);
-    let mut parts = IndexParts::new(alloc, state);
-    for event in events {
-        let ready = parts.prepare(*event)?;
-        parts.put(ready, &mut copies);
-    }
-    Ok(TraceIndex { parts, next: None })
-}
-
 /// An index of a well-formed trace, which grows by `reserve` and `record`. Look-ups do not
 /// allocate. For a place that is not in the trace they return `None` or an empty list. Indices may
 /// share full segments.
@@ -130,7 +108,7 @@ impl Model for TraceIndex {
 
 impl TraceIndex {
     /// Returns the index of `events`, which must be a well-formed trace. `state` is the hash state
-    /// of the tables.
+    /// of the tables. Part of the public API; not called by the program, which uses `extend`.
     ///
     /// # Errors
     ///
@@ -143,7 +121,35 @@ impl TraceIndex {
         requires { IsWellFormed events.now }
         ensures { IfOk result (λ index. index.events ≡ events.now) }
     {
-        build_counted::<Brand>(alloc, state, events, Blank::new(1))
+        let mut index = TraceIndex::new(alloc, state);
+        index.extend(events)?;
+        Ok(index)
+    }
+
+    /// Adds events, each of which must be lawful after the events before it. An event that is
+    /// reserved is reserved no longer.
+    ///
+    /// # Errors
+    ///
+    /// `NoMemory` if an allocation fails. Some of the events may have been added.
+    pub fn extend(&mut self, events: &[Event]) -> Result<(), NoMemory>
+        requires { IsWellFormed (self.old.events ++ events.now) }
+        ensures { OnOk result (self.new.events ≡ self.old.events ++ events.now) }
+    {
+        self.extend_counted::<Brand>(events, Blank::new(1))
+    }
+
+    /// Adds events as `extend` does, and counts them.
+    fn extend_counted<L: Ledger>(&mut self, events: &[Event], blank: Blank) -> Result<(), NoMemory>
+        requires lawful { IsWellFormed (self.old.events ++ events.now) }
+        requires name { blank.name ≡ L.name }
+        requires parts { blank.parts ≡ L.parts }
+        requires some { 0 < L.parts }
+        ensures { OnOk result (self.new.events ≡ self.old.events ++ events.now) }
+    {
+        let mut copies = Steps::<L>::new(blank);
+        self.next = None;
+        self.parts.extend(events, &mut copies)
     }
 
     /// Returns the number of events, at most `MAX_EVENTS`.
