@@ -2,25 +2,29 @@
 use Rattle.std.proofs.Common.{◌≡◌, ℕ, zero, suc, ◌+◌, ◌<◌, ◌≤◌, ◌⊎◌, inl, inr, Vec, List, [], ◌∷◌, ◌++◌, length, slice_get, slice_set, Option, Some, None, refl, sym, ap, subst, ◌∙◌, arith, append-nil}
 use Rattle.std.specs.Global.{Global}
 use Rattle.std.specs.List.{Contains}
-use Rattle.std.specs.Option.{option_and_then}
+use Rattle.std.specs.Arc.{arc_value}
+use Rattle.std.specs.Option.{option_map, option_and_then}
 use Rattle.std.proofs.lemmas.Bool.{cases_lt}
-use Rattle.std.proofs.lemmas.Option.{none-some, same_Some, slice_get_within, slice_get-get_or, get_or_from_slice_get}
+use Rattle.std.proofs.lemmas.Option.{none-some, same_Some, slice_get_within, slice_get_past, slice_get-get_or, get_or_from_slice_get}
 use Rattle.std.proofs.lemmas.List.Elements.{Contains-append_cases}
 use Rattle.trace_model.specs.Theory.Trace.{Trace, OfThread}
 use Rattle.trace_model.specs.Theory.Held.{BeginsOn}
 use Rattle.trace_model.proofs.Lists.{at_index, length-push, get-push, get-set_same, get-set_other}
-use Rattle.trace_index.specs.Numbers.{number_at}
-use Rattle.fronts.specs.declared.slot_table.SlotTable.{SlotTable}
-use Rattle.fronts.specs.declared.slot_table.LockSlots.{LockSlots}
+use Rattle.trace_model.specs.Theory.Closure.{ascending_places}
+use Rattle.trace_index.specs.Numbers.{of_thread, number_at}
+use Rattle.fronts.specs.declared.requirements.ThreadPrefix.{ThreadPrefix}
 use Rattle.fronts.specs.declared.requirements.Requirement.TheVariants.{Reach, Begin}
 use Rattle.fronts.specs.declared.requirements.Item.{Item}
 use Rattle.fronts.specs.declared.requirements.Requirements.{Requirements}
-use Rattle.fronts.specs.Slots.{slot_in, slots_of, AreSlots, AreTablePlaces, AreThreadSlots, HasSlotPosition}
-use Rattle.fronts.specs.Requirements.{Needs, AreLocks, AreLockSlots, AreItems, AreRequirements, item, item_at}
-use Rattle.fronts.specs.Pushing.{SlottedTrace, with_slots, IsRequirement, IsForkLater, IsIncluded, AreUpTo, IsBegun, IsBare, AddsRequirements, AreBuilt, AreAllBuilt}
+use Rattle.fronts.specs.Slots.{place_slot, slots_of, AreSlots, AreSlotPlaces, HasSlotPosition}
+use Rattle.fronts.specs.Firsts.{thread_slot_at, lock_slot_at, threads_below, locks_below}
+use Rattle.fronts.specs.Tables.{AreSlotPositions}
+use Rattle.fronts.specs.Requirements.{Needs, AreLocks, AreItems, AreRequirements, item, item_at}
+use Rattle.fronts.specs.Pushing.{SlottedTrace, trace_with_slots, IsRequirement, IsForkLater, IsIncluded, AreUpTo, IsBegun, IsBare, AddsRequirements, AreBuilt, AreAllBuilt}
 use Rattle.fronts.proofs.SlotLemmas.{before_position, earlier_position, has_upto}
 use Rattle.fronts.proofs.ThreadLemmas.{place_below}
-use Rattle.fronts.proofs.PushLemmas.{included_left, begun_left, begun_right, no_needs, requirements_from}
+use Rattle.fronts.proofs.FirstLemmas.{thread_slots, lock_slots, thread_slot_below}
+use Rattle.fronts.proofs.PushLemmas.{included_left, begun_left, begun_right, none_in, no_needs, requirements_from}
 
 found_at : {X : Type 0} (xs : List X) (x : X) → Contains xs x → (k : ℕ) × (slice_get xs k ≡ Some x)
 found_at xs x (k, l, e) = (k, slice_get-get_or xs k x l ∙ ap Some e)
@@ -108,21 +112,33 @@ built_pushed v count p a xs ys k slot b (n, added, num, is, d) = subst (AreBuilt
         let (q, l, st, dem) = b.only i h in
         omega (arith, before_position v.trace v.slots count q p a i.number n k st here l)
 
--- Before the first place there are no requirements.
-pub none_built : (v : SlottedTrace) (lists : List (Vec Item Global)) → ((a : ℕ) (xs : Vec Item Global) → slice_get lists a ≡ Some xs → xs.items ≡ []) → AreAllBuilt v 0 lists
-none_built v lists empty a xs at = subst (AreBuilt v 0 a) (sym (empty a xs at)) (record {
-  only = λ i h. let (k, less, is) = h in absurd (omega (arith, less));
-  ascend = λ j k x y l hx hy. absurd (none-some x hx);
-  needs = λ q r n l st requirement. absurd (omega (arith, l));
-  begins = λ q k n l st on. absurd (omega (arith, l));
-})
+-- A property of each element, with one more element.
+pub each_pushed : {X : Type 0} (P : ℕ → X → Type 0) (old new : List X) (n : ℕ) (x : X) → new ≡ old ++ x ∷ [] → length old ≡ n →
+    ((k : ℕ) (y : X) → slice_get old k ≡ Some y → P k y) → P n x → (k : ℕ) (y : X) → slice_get new k ≡ Some y → P k y
+each_pushed P old new n x is len each last k y at = elim (get-push old x k y (ap (λ z. slice_get z k) (sym is) ∙ at)) [
+  | inl before ↦ each k y before
+  | inr here ↦ subst (P k) here.1 (subst (λ z. P z x) (sym (here.0 ∙ len)) last)
+]
 
--- The slot of a place's thread is one of the slots.
-pub slot_within : (s : Trace) (threads : SlotTable) (p a : ℕ) → AreThreadSlots s threads → slots_of threads p ≡ Some a → a < threads.count
-slot_within s threads p a k slot =
-    let (t, of) = k.of_place p a slot in
-    let (b, e, less) = k.each p t of in
-    omega (arith, less, same_Some b a (sym e ∙ slot))
+pub length_pushed : {X : Type 0} (old new : List X) (n : ℕ) (x : X) → new ≡ old ++ x ∷ [] → length old ≡ n → length new ≡ n + 1
+length_pushed old new n x is len = ap length is ∙ (length-push old x ∙ omega (arith, len))
+
+-- A slot that no place has yet has no requirements.
+none_built : (v : SlottedTrace) (p a : ℕ) → ((q : ℕ) → q < p → v.slots q ≡ Some a → ⊥) → AreBuilt v p a []
+none_built v p a none = record {
+  only = λ i h. absurd (none_in i h);
+  ascend = λ j k x y l hx hy. absurd (none-some x hx);
+  needs = λ q r n l st requirement. absurd (none q l st.slot);
+  begins = λ q k n l st on. absurd (none q l st.slot);
+}
+
+-- One more list, for a new thread.
+pub list_pushed : (s : Trace) (p : ℕ) (old new : List (Vec Item Global)) (one : Vec Item Global) → one.items ≡ [] → length old ≡ threads_below s p →
+    new ≡ old ++ one ∷ [] → AreAllBuilt (trace_with_slots s) p old → AreAllBuilt (trace_with_slots s) p new
+list_pushed s p old new one empty len is all =
+    each_pushed (λ a (xs : Vec Item Global). AreBuilt (trace_with_slots s) p a xs.items) old new (threads_below s p) one is len all
+    (subst (AreBuilt (trace_with_slots s) p (threads_below s p)) (sym empty)
+    (none_built (trace_with_slots s) p (threads_below s p) (λ q l h. omega (arith, thread_slot_below s q (threads_below s p) p h l))))
 
 -- One more place.
 pub all_pushed : (v : SlottedTrace) (count p a : ℕ) (lists : List (Vec Item Global)) (old new : Vec Item Global) → AreSlots v.trace v.slots count → v.slots p ≡ Some a →
@@ -225,23 +241,33 @@ items_built v d count k len all = record {
         let (b, f, less) = k.each q t o in
         at_index d.items.items a (omega (arith, len, less, same_Some a b (sym e ∙ f)))
 
--- A property of each element, with one more element.
-pub each_pushed : {X : Type 0} (P : ℕ → X → Type 0) (old new : List X) (n : ℕ) (x : X) → new ≡ old ++ x ∷ [] → length old ≡ n →
-    ((k : ℕ) (y : X) → slice_get old k ≡ Some y → P k y) → P n x → (k : ℕ) (y : X) → slice_get new k ≡ Some y → P k y
-each_pushed P old new n x is len each last k y at = elim (get-push old x k y (ap (λ z. slice_get z k) (sym is) ∙ at)) [
-  | inl before ↦ each k y before
-  | inr here ↦ subst (P k) here.1 (subst (λ z. P z x) (sym (here.0 ∙ len)) last)
-]
+-- The listed slots are those that the first places give.
+listed_slots : (s : Trace) (positions : List ThreadPrefix) → AreSlotPositions s positions → length positions ≡ length s → place_slot positions ≡ thread_slot_at s
+listed_slots s positions are len i p = each p i
+  where
+    each : (p : ℕ) → place_slot positions p ≡ thread_slot_at s p
+    each p = elim (cases_lt p (length s)) [
+      | inl less ↦
+          let (to, at) = at_index positions p (omega (arith, less, len)) in
+          ap (option_map (λ to. to.slot)) at ∙ sym (are p to at).slot
+      | inr not ↦
+          ap (option_map (λ to. to.slot)) (slice_get_past positions p (omega (arith, not, len)))
+          ∙ sym (ap (λ z. option_map (threads_below s) (option_and_then (λ e. slice_get (ascending_places (of_thread s e.thread) (length s)) 0) z)) (slice_get_past s p not))
+    ]
 
-pub length_pushed : {X : Type 0} (old new : List X) (n : ℕ) (x : X) → new ≡ old ++ x ∷ [] → length old ≡ n → length new ≡ n + 1
-length_pushed old new n x is len = ap length is ∙ (length-push old x ∙ omega (arith, len))
-
-pub requirements_built : (s : Trace) (d : Requirements) (lock_slots : LockSlots) → AreThreadSlots s d.threads → AreTablePlaces s d.threads → AreLockSlots s lock_slots → d.lock_count ≡ lock_slots.count →
-    length d.items.items ≡ d.threads.count → AreAllBuilt (with_slots s d.threads lock_slots) (length s) d.items.items → AreRequirements s d
-requirements_built s d lock_slots slots positions locks count len all = record {
-  slots = slots;
-  lock_slots = slot_in lock_slots.slots.items;
-  locks = subst (AreLocks s (slot_in lock_slots.slots.items)) (sym count) locks;
-  positions = positions;
-  items = items_built (with_slots s d.threads lock_slots) d d.threads.count slots len all;
+pub requirements_built : (s : Trace) (d : Requirements) → AreSlotPositions s (arc_value d.threads.positions) → length (arc_value d.threads.positions) ≡ length s →
+    d.threads.count ≡ threads_below s (length s) → d.lock_count ≡ locks_below s (length s) →
+    length d.items.items ≡ d.threads.count → AreAllBuilt (trace_with_slots s) (length s) d.items.items → AreRequirements s d
+requirements_built s d are long threads locks len all = record {
+  slots = subst (λ f. AreSlots s f d.threads.count) (sym same) slots;
+  lock_slots = lock_slot_at s;
+  locks = subst (AreLocks s (lock_slot_at s)) (sym locks) (lock_slots s);
+  positions = subst (λ f. AreSlotPlaces s f (arc_value d.threads.positions)) (sym same) (record { each = are; all = long });
+  items = subst (λ f. AreItems s f (lock_slot_at s) (item_at d)) (sym same) (items_built (trace_with_slots s) d d.threads.count slots len all);
 }
+  where
+    same : slots_of d.threads ≡ thread_slot_at s
+    same = listed_slots s (arc_value d.threads.positions) are long
+
+    slots : AreSlots s (thread_slot_at s) d.threads.count
+    slots = subst (AreSlots s (thread_slot_at s)) (sym threads) (thread_slots s)

@@ -1,7 +1,8 @@
 -- The slots of threads and of locks, by their first places.
-use Rattle.std.proofs.Common.{◌≡◌, ℕ, zero, suc, ◌<◌, ◌≤◌, inl, inr, true, List, length, slice_get, Option, Some, None, IfSome, refl, sym, ap, subst, ◌∙◌, arith}
-use Rattle.std.specs.Option.{option_and_then}
-use Rattle.std.proofs.lemmas.Bool.{cases_lt}
+use Rattle.std.proofs.Common.{◌≡◌, ℕ, zero, suc, ◌+◌, ◌<◌, ◌≤◌, ◌==◌, inl, inr, true, false, cond, List, length, slice_get, Option, Some, None, IfSome, refl, sym, ap, subst, ◌∙◌, arith, add-one}
+use Rattle.std.specs.Option.{option_map, option_map_or, option_and_then}
+use Rattle.std.proofs.lemmas.Bool.{cases_lt, eq-eqb}
+use Rattle.std.proofs.lemmas.Bool.Decides.{eqb_tells}
 use Rattle.std.proofs.lemmas.Option.{none-some, same_Some, slice_get_within}
 use Rattle.trace_model.specs.declared.traces.event.Event.{Event}
 use Rattle.trace_model.specs.Theory.Trace.{Trace, At, last_place, OfThread}
@@ -18,9 +19,8 @@ use Rattle.trace_index.specs.Numbers.{of_thread, thread_before, acquire_before}
 use Rattle.trace_model.proofs.Theory.Begun.{begun_so, begun_from}
 use Rattle.fronts.specs.Slots.{AreSlots}
 use Rattle.fronts.specs.Requirements.{AreLocks}
-use Rattle.fronts.specs.SlotTable.{AreFirsts, AreSlotNumbers, next_slot}
-use Rattle.fronts.specs.Firsts.{first_of_thread, first_of_lock}
-use Rattle.fronts.proofs.SlotTableLemmas.{as_before, as_first}
+use Rattle.fronts.specs.Firsts.{first_of_thread, first_of_lock, is_first, firsts_below, slot_by, thread_slot_at, lock_slot_at, threads_below, locks_below, slot_count_after}
+use Rattle.fronts.proofs.Counts.{count_lt}
 use Rattle.trace_model.proofs.Theory.Computed.{of_thread_from}
 use Rattle.trace_model.proofs.Theory.Derivable.{of_thread_so}
 use Rattle.fronts.proofs.ThreadLemmas.{place_below}
@@ -37,6 +37,28 @@ least_listed f n p l h =
     before : (xs : List ℕ) → IsStrictlyIncreasing xs → (k x p : ℕ) → slice_get xs 0 ≡ Some x → slice_get xs k ≡ Some p → x ≤ p
     before xs up zero x p a b = omega (arith, same_Some x p (sym a ∙ b))
     before xs up (suc k) x p a b = omega (arith, increasing_ordered xs up 0 (suc k) x p (omega arith) a b)
+
+-- A place that is its own first place passes the test.
+passes : (first_of : ℕ → Option ℕ) (x : ℕ) → first_of x ≡ Some x → is_first first_of x ≡ true
+passes first_of x e = ap (λ z. option_map_or (λ y. y == x) z false) e ∙ eq-eqb x x refl
+
+-- A slot is that of a first place.
+slot_first : (first_of : ℕ → Option ℕ) (p a : ℕ) → slot_by first_of p ≡ Some a → (x : ℕ) × (first_of p ≡ Some x) × (firsts_below first_of x ≡ a)
+slot_first first_of p a h = go (first_of p) refl h
+  where
+    go : (o : Option ℕ) → first_of p ≡ o → option_map (firsts_below first_of) o ≡ Some a → (x : ℕ) × (first_of p ≡ Some x) × (firsts_below first_of x ≡ a)
+    go None e k = absurd (none-some a k)
+    go (Some x) e k = (x, e, same_Some (firsts_below first_of x) a k)
+
+-- Two first places with the same number of first places below them are the same place.
+one_first : (first_of : ℕ → Option ℕ) (x y : ℕ) → first_of x ≡ Some x → first_of y ≡ Some y → firsts_below first_of x ≡ firsts_below first_of y → x ≡ y
+one_first first_of x y fx fy same = elim (cases_lt x y) [
+  | inl less ↦ absurd (omega (arith, count_lt (is_first first_of) x y less (passes first_of x fx), same))
+  | inr not ↦ elim (cases_lt y x) [
+    | inl more ↦ absurd (omega (arith, count_lt (is_first first_of) y x more (passes first_of y fy), same))
+    | inr also ↦ omega (arith, not, also)
+  ]
+]
 
 -- Places grouped by their thread or lock: each place has the first place
 -- of its group.
@@ -58,55 +80,88 @@ module _ (On : ℕ → ℕ → Type 0) (listed : ℕ → Places) (first_of : ℕ
   same_first p q k o oq = h.at q k oq ∙ sym (h.at p k o)
 
   -- A place that no place of its group precedes is the first.
-  is_first : (p k : ℕ) → On p k → ((x : ℕ) → x < p → On x k → ⊥) → Some p ≡ first_of p
-  is_first p k o none =
+  own_first : (p k : ℕ) → On p k → ((x : ℕ) → x < p → On x k → ⊥) → Some p ≡ first_of p
+  own_first p k o none =
       let (x, first, l, ox) = first_on p k o in
       elim (cases_lt x p) [
         | inl less ↦ absurd (none x less ox)
         | inr more ↦ let same : p ≡ x = omega arith in ap Some same ∙ sym first
       ]
 
-  module _ (firsts : ℕ → Option ℕ) (same : (p : ℕ) → firsts p ≡ first_of p) where
-    firsts_are : AreFirsts firsts
-    firsts_are = record {
-      first = λ p x e.
-          let (k, o) = h.some p x (sym (same p) ∙ e) in
-          let (y, first, l, oy) = first_on p k o in
-          let is : y ≡ x = same_Some y x (sym first ∙ (sym (same p) ∙ e)) in
-          (omega (arith, l, is), same x ∙ (same_first p x k o (subst (λ z. On z k) is oy) ∙ (sym (same p) ∙ e)));
-    }
+  -- The first place of a group is its own first place.
+  first_itself : (p x : ℕ) → first_of p ≡ Some x → (x ≤ p) × (first_of x ≡ Some x)
+  first_itself p x e =
+      let (k, o) = h.some p x e in
+      let (y, first, l, oy) = first_on p k o in
+      let is : y ≡ x = same_Some y x (sym first ∙ e) in
+      (omega (arith, l, is), same_first p x k o (subst (λ z. On z k) is oy) ∙ e)
 
-    module _ (slot_table : ℕ → Option ℕ) (count : ℕ) (c : AreSlotNumbers firsts slot_table count n) where
-      each_has : (p k : ℕ) → On p k → (a : ℕ) × (slot_table p ≡ Some a) × (a < count)
-      each_has p k o =
-          let (x, first, l, ox) = first_on p k o in
-          c.each p x (h.below p k o) (same p ∙ first)
+  -- A place of the group has a slot.
+  each_has : (p k : ℕ) → On p k → (a : ℕ) × (slot_by first_of p ≡ Some a) × (a < firsts_below first_of n)
+  each_has p k o =
+      let (x, first, l, ox) = first_on p k o in (
+        firsts_below first_of x,
+        ap (option_map (firsts_below first_of)) first,
+        count_lt (is_first first_of) x n (omega (arith, l, h.below p k o)) (passes first_of x (first_itself p x first).1),
+      )
 
-      are_apart : (p q a k : ℕ) → slot_table p ≡ Some a → slot_table q ≡ Some a → On p k → On q k
-      are_apart p q a k hp hq o =
-          let (x, first, l, ox) = first_on p k o in
-          let fq = c.apart p q a x hp hq (same p ∙ first) in
-          let (m, oq) = h.some q x (sym (same q) ∙ fq) in
-          let (y, first_q, j, oy) = first_on q m oq in
-          let is : y ≡ x = same_Some y x (sym first_q ∙ (sym (same q) ∙ fq)) in
-          subst (On q) (sym (h.one x k m ox (subst (λ z. On z m) is oy))) oq
+  are_alike : (p q k : ℕ) → On p k → On q k → slot_by first_of q ≡ slot_by first_of p
+  are_alike p q k o oq = ap (option_map (firsts_below first_of)) (same_first p q k o oq)
 
-      are_alike : (p q a k : ℕ) → slot_table p ≡ Some a → On p k → On q k → slot_table q ≡ Some a
-      are_alike p q a k hp o oq =
-          let (x, first, l, ox) = first_on p k o in
-          c.alike p q a x (h.below q k oq) hp (same p ∙ first) (same q ∙ (same_first p q k o oq ∙ first))
+  are_apart : (p q a k : ℕ) → slot_by first_of p ≡ Some a → slot_by first_of q ≡ Some a → On p k → On q k
+  are_apart p q a k hp hq o =
+      let (x, fp, x_is) = slot_first first_of p a hp in
+      let (y, fq, y_is) = slot_first first_of q a hq in
+      let (m, oq) = h.some q y fq in
+      let (z, first_p, l, oz) = first_on p k o in
+      let (w, first_q, j, ow) = first_on q m oq in
+      let same : x ≡ y = one_first first_of x y (first_itself p x fp).1 (first_itself q y fq).1 (x_is ∙ sym y_is) in
+      let ox : On y k = subst (λ u. On u k) (same_Some z x (sym first_p ∙ fp) ∙ same) oz in
+      let oy : On y m = subst (λ u. On u m) (same_Some w y (sym first_q ∙ fq)) ow in
+      subst (On q) (sym (h.one y k m ox oy)) oq
 
   -- From the previous place of the group.
-  new_slot : (p k count : ℕ) (slot_table : ℕ → Option ℕ) → On p k → last_place (listed k) p ≡ None → Some count ≡ next_slot slot_table (first_of p) p count
-  new_slot p k count slot_table o none =
-      as_first first_of slot_table count p (is_first p k o (λ x less ox. last_place_none (listed k) p none x less (h.from k x ox)))
+  new_slot : (p k : ℕ) → On p k → last_place (listed k) p ≡ None → slot_by first_of p ≡ Some (firsts_below first_of p)
+  new_slot p k o none =
+      ap (option_map (firsts_below first_of)) (sym (own_first p k o (λ x less ox. last_place_none (listed k) p none x less (h.from k x ox))))
 
-  old_slot : (p q k count : ℕ) (slot_table : ℕ → Option ℕ) → On p k → last_place (listed k) p ≡ Some q → AreSlotNumbers first_of slot_table count p →
-      slot_table q ≡ next_slot slot_table (first_of p) p count
-  old_slot p q k count slot_table o last known =
+  old_slot : (p q k : ℕ) → On p k → last_place (listed k) p ≡ Some q → (q < p) × (slot_by first_of p ≡ slot_by first_of q)
+  old_slot p q k o last =
       let is = last_place_some (listed k) p q last in
-      let (x, first, l, ox) = first_on p k o in
-      as_before first_of slot_table count p q x (firsts_are first_of (λ z. refl)) known is.0 (same_first p q k o (h.so k q is.1) ∙ first) first
+      (is.0, are_alike q p k (h.so k q is.1) o)
+
+  -- The slot of a place below `m` is below the number of slots there.
+  below_count : (p a m : ℕ) → slot_by first_of p ≡ Some a → p < m → a < firsts_below first_of m
+  below_count p a m has less =
+      let (x, first, is) = slot_first first_of p a has in
+      let itself = first_itself p x first in
+      omega (arith, count_lt (is_first first_of) x m (omega (arith, itself.0, less)) (passes first_of x itself.1), is)
+
+  -- The number of slots, with one more place.
+  one_more : (p : ℕ) → firsts_below first_of (p + 1) ≡ slot_count_after (slot_by first_of p) (firsts_below first_of p)
+  one_more p = ap (firsts_below first_of) (add-one p) ∙ go (first_of p) refl
+    where
+      count : ℕ
+      count = firsts_below first_of p
+
+      go : (o : Option ℕ) → first_of p ≡ o → firsts_below first_of (suc p) ≡ slot_count_after (slot_by first_of p) (firsts_below first_of p)
+      go None e =
+          ap (λ z. cond (option_map_or (λ x. x == p) z false) (suc count) count) e
+          ∙ sym (ap (λ z. slot_count_after (option_map (firsts_below first_of) z) count) e)
+      go (Some x) e =
+          ap (λ z. cond (option_map_or (λ x. x == p) z false) (suc count) count) e
+          ∙ (grown ∙ sym (ap (λ z. slot_count_after (option_map (firsts_below first_of) z) count) e))
+        where
+          grown : cond (x == p) (suc count) count ≡ slot_count_after (Some (firsts_below first_of x)) count
+          grown = elim (eqb_tells x p) [
+            | inl same ↦
+                ap (λ b. cond b (suc count) count) same.0
+                ∙ (sym (add-one count) ∙ sym (ap (λ b. cond b (count + 1) count) (eq-eqb (firsts_below first_of x) count (ap (firsts_below first_of) same.1))))
+            | inr other ↦ elim (eqb_tells (firsts_below first_of x) count) [
+              | inl full ↦ absurd (omega (arith, full.1, below_count x (firsts_below first_of x) p (ap (option_map (firsts_below first_of)) (first_itself p x e).1) (omega (arith, (first_itself p x e).0, other.1))))
+              | inr part ↦ ap (λ b. cond b (suc count) count) other.0 ∙ sym (ap (λ b. cond b (count + 1) count) part.0)
+            ]
+          ]
 
 thread_at : (s : Trace) (p t : ℕ) → OfThread s p t → first_of_thread s p ≡ slice_get (ascending_places (of_thread s t) (length s)) 0
 thread_at s p t (o, h) = rw h refl
@@ -128,13 +183,12 @@ threads_have s = record {
   below = λ p t o. place_below s t p o;
 }
 
-pub thread_slots : (s : Trace) (firsts slots : ℕ → Option ℕ) (count : ℕ) → ((p : ℕ) → firsts p ≡ first_of_thread s p) →
-    AreSlotNumbers firsts slots count (length s) → AreSlots s slots count
-thread_slots s firsts slots count same c = record {
-  each = each_has (OfThread s) (of_thread s) (first_of_thread s) (length s) (threads_have s) firsts same slots count c;
-  of_place = λ p a h. let (l, x, f) = c.has p a h in some_thread s p x (sym (same p) ∙ f);
-  apart = are_apart (OfThread s) (of_thread s) (first_of_thread s) (length s) (threads_have s) firsts same slots count c;
-  alike = are_alike (OfThread s) (of_thread s) (first_of_thread s) (length s) (threads_have s) firsts same slots count c;
+pub thread_slots : (s : Trace) → AreSlots s (thread_slot_at s) (threads_below s (length s))
+thread_slots s = record {
+  each = each_has (OfThread s) (of_thread s) (first_of_thread s) (length s) (threads_have s);
+  of_place = λ p a h. let (x, first, is) = slot_first (first_of_thread s) p a h in some_thread s p x first;
+  apart = are_apart (OfThread s) (of_thread s) (first_of_thread s) (length s) (threads_have s);
+  alike = λ p q a t h o oq. are_alike (OfThread s) (of_thread s) (first_of_thread s) (length s) (threads_have s) p q t o oq ∙ h;
 }
 
 -- The same for locks.
@@ -162,52 +216,48 @@ locks_have s = record {
   below = λ p k b. slice_get_within s p _ b.1.0;
 }
 
-pub lock_slots : (s : Trace) (firsts locks : ℕ → Option ℕ) (count : ℕ) → ((p : ℕ) → firsts p ≡ first_of_lock s p) →
-    AreSlotNumbers firsts locks count (length s) → AreLocks s locks count
-lock_slots s firsts locks count same c = record {
-  each = each_has (BeginsOn s) (begins_on s) (first_of_lock s) (length s) (locks_have s) firsts same locks count c;
-  apart = are_apart (BeginsOn s) (begins_on s) (first_of_lock s) (length s) (locks_have s) firsts same locks count c;
-  alike = are_alike (BeginsOn s) (begins_on s) (first_of_lock s) (length s) (locks_have s) firsts same locks count c;
+pub lock_slots : (s : Trace) → AreLocks s (lock_slot_at s) (locks_below s (length s))
+lock_slots s = record {
+  each = each_has (BeginsOn s) (begins_on s) (first_of_lock s) (length s) (locks_have s);
+  apart = are_apart (BeginsOn s) (begins_on s) (first_of_lock s) (length s) (locks_have s);
+  alike = λ p q l k h o oq. are_alike (BeginsOn s) (begins_on s) (first_of_lock s) (length s) (locks_have s) p q k o oq ∙ h;
 }
 
-pub thread_firsts : (s : Trace) → AreFirsts (first_of_thread s)
-thread_firsts s = firsts_are (OfThread s) (of_thread s) (first_of_thread s) (length s) (threads_have s) (first_of_thread s) (λ p. refl)
+-- The slot of a place below `m` is below the number of threads there.
+pub thread_slot_below : (s : Trace) (p a m : ℕ) → thread_slot_at s p ≡ Some a → p < m → a < threads_below s m
+thread_slot_below s = below_count (OfThread s) (of_thread s) (first_of_thread s) (length s) (threads_have s)
 
-pub lock_firsts : (s : Trace) → AreFirsts (first_of_lock s)
-lock_firsts s = firsts_are (BeginsOn s) (begins_on s) (first_of_lock s) (length s) (locks_have s) (first_of_lock s) (λ p. refl)
+-- The number of slots, with one more place.
+pub threads_after : (s : Trace) (p : ℕ) → threads_below s (p + 1) ≡ slot_count_after (thread_slot_at s p) (threads_below s p)
+threads_after s = one_more (OfThread s) (of_thread s) (first_of_thread s) (length s) (threads_have s)
+
+pub locks_after : (s : Trace) (p : ℕ) → locks_below s (p + 1) ≡ slot_count_after (lock_slot_at s p) (locks_below s p)
+locks_after s = one_more (BeginsOn s) (begins_on s) (first_of_lock s) (length s) (locks_have s)
+
+-- From the previous place.
+pub thread_new_slot : (s : Trace) (p : ℕ) (e : Event) → At s p e → thread_before s p ≡ None → thread_slot_at s p ≡ Some (threads_below s p)
+thread_new_slot s p e a none =
+    new_slot (OfThread s) (of_thread s) (first_of_thread s) (length s) (threads_have s) p e.thread (e.op, a) (sym (ap (option_and_then (λ x. last_place (of_thread s x.thread) p)) a) ∙ none)
+
+pub thread_old_slot : (s : Trace) (p q : ℕ) (e : Event) → At s p e → thread_before s p ≡ Some q → (q < p) × (thread_slot_at s p ≡ thread_slot_at s q)
+thread_old_slot s p q e a some =
+    old_slot (OfThread s) (of_thread s) (first_of_thread s) (length s) (threads_have s) p q e.thread (e.op, a) (sym (ap (option_and_then (λ x. last_place (of_thread s x.thread) p)) a) ∙ some)
+
+pub lock_new_slot : (s : Trace) (p k : ℕ) → begun_lock s p ≡ Some k → acquire_before s p ≡ None → lock_slot_at s p ≡ Some (locks_below s p)
+lock_new_slot s p k b none =
+    new_slot (BeginsOn s) (begins_on s) (first_of_lock s) (length s) (locks_have s) p k (begun_so s p k b) (sym (ap (option_and_then (λ l. last_place (begins_on s l) p)) b) ∙ none)
+
+pub lock_old_slot : (s : Trace) (p q k : ℕ) → begun_lock s p ≡ Some k → acquire_before s p ≡ Some q → (q < p) × (lock_slot_at s p ≡ lock_slot_at s q)
+lock_old_slot s p q k b some =
+    old_slot (BeginsOn s) (begins_on s) (first_of_lock s) (length s) (locks_have s) p q k (begun_so s p k b) (sym (ap (option_and_then (λ l. last_place (begins_on s l) p)) b) ∙ some)
+
+-- A place has a lock slot if and only if a section begins there.
+pub lock_begun : (s : Trace) (p l : ℕ) → lock_slot_at s p ≡ Some l → (k : ℕ) × BeginsOn s p k
+lock_begun s p l h = let (x, first, is) = slot_first (first_of_lock s) p l h in some_lock s p x first
+
+pub lock_none : (s : Trace) (p : ℕ) → lock_slot_at s p ≡ None → (k : ℕ) → BeginsOn s p k → ⊥
+lock_none s p none k on = let (l, is, less) = (lock_slots s).each p k on in none-some l (sym none ∙ is)
 
 pub some_within : (o : Option ℕ) (n : ℕ) → ((p : ℕ) → o ≡ Some p → p < n) → IfSome o (λ p. p < n)
 some_within None n f = tt
 some_within (Some p) n f = f p refl
-
--- From the previous place.
-pub thread_old_some : (s : Trace) (p q count : ℕ) (e : Event) (slot_table : ℕ → Option ℕ) → At s p e → Some q ≡ thread_before s p → AreSlotNumbers (first_of_thread s) slot_table count p →
-    (a : ℕ) × (slot_table q ≡ Some a)
-thread_old_some s p q count e slot_table a some known =
-    let last : last_place (of_thread s e.thread) p ≡ Some q = sym (some ∙ ap (option_and_then (λ x. last_place (of_thread s x.thread) p)) a) in
-    let is = last_place_some (of_thread s e.thread) p q last in
-    let (x, first, l, ox) = first_on (OfThread s) (of_thread s) (first_of_thread s) (length s) (threads_have s) q e.thread (of_thread_so s e.thread q is.1) in
-    let (b, has, less) = known.each q x is.0 first in
-    (b, has)
-
-pub thread_new_slot : (s : Trace) (p count : ℕ) (e : Event) (slot_table : ℕ → Option ℕ) → At s p e → None ≡ thread_before s p → Some count ≡ next_slot slot_table (first_of_thread s p) p count
-thread_new_slot s p count e slot_table a none =
-    new_slot (OfThread s) (of_thread s) (first_of_thread s) (length s) (threads_have s) p e.thread count slot_table (e.op, a) (sym (none ∙ ap (option_and_then (λ x. last_place (of_thread s x.thread) p)) a))
-
-pub thread_old_slot : (s : Trace) (p q count : ℕ) (e : Event) (slot_table : ℕ → Option ℕ) → At s p e → Some q ≡ thread_before s p → AreSlotNumbers (first_of_thread s) slot_table count p →
-    slot_table q ≡ next_slot slot_table (first_of_thread s p) p count
-thread_old_slot s p q count e slot_table a some =
-    old_slot (OfThread s) (of_thread s) (first_of_thread s) (length s) (threads_have s) p q e.thread count slot_table (e.op, a) (sym (some ∙ ap (option_and_then (λ x. last_place (of_thread s x.thread) p)) a))
-
-pub lock_new_slot : (s : Trace) (p k count : ℕ) (slot_table : ℕ → Option ℕ) → begun_lock s p ≡ Some k → None ≡ acquire_before s p → Some count ≡ next_slot slot_table (first_of_lock s p) p count
-lock_new_slot s p k count slot_table b none =
-    new_slot (BeginsOn s) (begins_on s) (first_of_lock s) (length s) (locks_have s) p k count slot_table (begun_so s p k b) (sym (none ∙ ap (option_and_then (λ l. last_place (begins_on s l) p)) b))
-
-pub lock_old_slot : (s : Trace) (p q k count : ℕ) (slot_table : ℕ → Option ℕ) → begun_lock s p ≡ Some k → Some q ≡ acquire_before s p → AreSlotNumbers (first_of_lock s) slot_table count p →
-    slot_table q ≡ next_slot slot_table (first_of_lock s p) p count
-lock_old_slot s p q k count slot_table b some =
-    old_slot (BeginsOn s) (begins_on s) (first_of_lock s) (length s) (locks_have s) p q k count slot_table (begun_so s p k b) (sym (some ∙ ap (option_and_then (λ l. last_place (begins_on s l) p)) b))
-
--- No section begins at the place.
-pub lock_no_slot : (s : Trace) (p count : ℕ) (slot_table : ℕ → Option ℕ) → None ≡ begun_lock s p → None ≡ next_slot slot_table (first_of_lock s p) p count
-lock_no_slot s p count slot_table none = ap (λ z. next_slot slot_table (option_and_then (λ l. slice_get (ascending_places (begins_on s l) (length s)) 0) z) p count) none

@@ -9,7 +9,6 @@ pub mod RaiseLemmas
 pub mod StageLemmas
 pub mod InvariantLemmas
 pub mod RunLemmas
-pub mod SlotTableLemmas
 pub mod FirstLemmas
 pub mod PushLemmas
 pub mod BuildLemmas

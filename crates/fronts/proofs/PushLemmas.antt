@@ -1,19 +1,20 @@
 -- The requirements of each place, and the items that it adds to its thread.
-use Rattle.std.proofs.Common.{◌≡◌, ◌↔◌, ℕ, zero, suc, ◌<◌, ◌≤◌, ◌⊎◌, inl, inr, List, [], ◌∷◌, ◌++◌, length, Option, Some, None, MatchOption, refl, sym, ap, subst, ◌∙◌, arith, append_assoc, append-nil}
+use Rattle.std.proofs.Common.{◌≡◌, ◌↔◌, ℕ, zero, suc, ◌<◌, ◌≤◌, ◌⊎◌, inl, inr, List, [], ◌∷◌, ◌++◌, Option, Some, None, MatchOption, refl, sym, ap, subst, ◌∙◌, arith, append_assoc, append-nil}
 use Rattle.std.specs.List.{Contains}
 use Rattle.std.specs.Option.{option_and_then}
 use Rattle.std.proofs.lemmas.Bool.{cases_lt}
-use Rattle.std.proofs.lemmas.Option.{none-some, same_Some, slice_get_within}
+use Rattle.std.proofs.lemmas.Option.{none-some, same_Some}
 use Rattle.std.proofs.lemmas.List.Elements.{Contains-append_left, Contains-append_right, Contains-append_cases, Contains-push, Contains-push_cases}
 use Rattle.trace_model.specs.declared.traces.event.Op.{Op}
 use Rattle.trace_model.specs.declared.traces.event.Op.TheVariants.{Fork, Join, Write}
 use Rattle.trace_model.specs.Theory.Trace.{Trace, event, At, Does, OfThread}
-use Rattle.trace_model.specs.Theory.Held.{BeginsOn, begun_lock}
+use Rattle.trace_model.specs.Theory.Held.{BeginsOn}
+use Rattle.trace_model.specs.Theory.Lawful.{IsWellFormed}
 use Rattle.trace_model.specs.Theory.Lookups.{writer_of}
 use Rattle.trace_model.proofs.Theory.Lookups.{writer_so}
 use Rattle.trace_model.proofs.Theory.Least.{at_thread}
 use Rattle.trace_index.specs.Numbers.{earlier_events, number_at}
-use Rattle.trace_model.proofs.Theory.Begun.{begun_from}
+use Rattle.trace_model.proofs.Theory.Existence.{needed_before}
 use Rattle.fronts.specs.declared.requirements.ThreadPrefix.{ThreadPrefix}
 use Rattle.fronts.specs.declared.requirements.Section.{Section}
 use Rattle.fronts.specs.declared.requirements.Requirement.{Requirement}
@@ -24,7 +25,6 @@ use Rattle.fronts.specs.Threads.{IsLastOfThread}
 use Rattle.fronts.specs.Requirements.{Needs, IsPrefixThrough, EndsSection, item}
 use Rattle.fronts.specs.Pushing.{SlottedTrace, requirement_items, IsRequired, IsRedundant, AddsPrefix, AddsReach, IsStart, IsFirstNeed, IsLastNeed, IsBegin, IsRequirement, IsForkLater, IsReached, IsIncluded, AreUpTo, IsBegun, AddsRequirements}
 use Rattle.fronts.proofs.FrontLemmas.{earlier_lt}
-use Rattle.fronts.proofs.ThreadLemmas.{place_below}
 use Rattle.fronts.proofs.SlotLemmas.{number_of, number_is, position_before}
 
 abbrev joined_thread : Op → ℕ
@@ -67,18 +67,16 @@ begin_is v q k l c on lock e ends = record {
 }
 
 -- If no section begins at a place, it has no such requirement.
-pub begin_none : (v : SlottedTrace) (q : ℕ) → None ≡ begun_lock v.trace q → IsBegin v q None
+pub begin_none : (v : SlottedTrace) (q : ℕ) → ((k : ℕ) → BeginsOn v.trace q k → ⊥) → IsBegin v q None
 begin_none v q none = record {
   true_need = λ requirement h. absurd (none-some requirement h);
-  begun = λ k on. absurd (none-some k (none ∙ begun_from v.trace q k on));
+  begun = λ k on. absurd (none k on);
 }
 
--- A required place is in the trace.
-pub need_within : (s : Trace) (q r : ℕ) → q < length s → Needs s q r → r < length s
-need_within s q r l (inl (inl (t, o, (u, at)))) = slice_get_within s r _ at
-need_within s q r l (inl (inr (c, d, inl (u, at)))) = slice_get_within s r _ at
-need_within s q r l (inl (inr (c, d, inr o))) = place_below s c r o
-need_within s q r l (inr w) = let so = writer_so s q r w in omega (arith, so.2.0, l)
+-- A required place is before the place that requires it.
+pub need_before : (s : Trace) → IsWellFormed s → (q r : ℕ) → Needs s q r → r < q
+need_before s well q r (inl fork_or_join) = needed_before s well r q fork_or_join
+need_before s well q r (inr w) = let so = writer_so s q r w in so.2.0
 
 need_thread : (s : Trace) (q r : ℕ) → Needs s q r → (t : ℕ) × OfThread s r t
 need_thread s q r (inl (inl (t, o, (u, at)))) = (u, (Fork t, at))

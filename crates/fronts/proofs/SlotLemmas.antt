@@ -1,13 +1,14 @@
 -- Places by their slots and numbers.
-use Rattle.std.proofs.Common.{◌≡◌, ℕ, suc, ◌<◌, inl, inr, true, false, nat_lt, length, Option, Some, None, refl, sym, ap, subst, ◌∙◌, arith}
-use Rattle.std.specs.Option.{option_map_or}
+use Rattle.std.proofs.Common.{◌≡◌, ℕ, suc, ◌<◌, inl, inr, true, false, nat_lt, length, slice_get, Option, Some, None, refl, sym, ap, subst, ◌∙◌, arith}
+use Rattle.std.specs.Option.{option_map, option_map_or}
 use Rattle.std.proofs.lemmas.Bool.{cases_lt, false≢true}
-use Rattle.std.proofs.lemmas.Option.{same_Some}
+use Rattle.std.proofs.lemmas.Option.{none-some, same_Some, slice_get_within}
+use Rattle.trace_model.specs.declared.traces.event.Event.{Event}
 use Rattle.trace_model.specs.Theory.Trace.{Trace, OfThread, EarlierInThread}
 use Rattle.trace_model.specs.Theory.Closure.{ascending_places}
 use Rattle.trace_model.proofs.Lists.{at_index}
 use Rattle.trace_index.specs.Numbers.{of_thread, earlier_events, number_at}
-use Rattle.segments.proofs.Counting.{length_ascending}
+use Rattle.segments.proofs.Counting.{count_max, length_ascending}
 use Rattle.fronts.specs.Slots.{AreSlots, HasSlotPosition, in_front, HasFirst}
 use Rattle.fronts.proofs.Counts.{count_lt}
 use Rattle.trace_model.proofs.Theory.Computed.{of_thread_from}
@@ -19,6 +20,14 @@ number_of s p t (o, h) = rw h refl
 
 pub number_is : (s : Trace) (p t n : ℕ) → OfThread s p t → number_at s p ≡ Some n → earlier_events s t p ≡ n
 number_is s p t n o h = same_Some (earlier_events s t p) n (sym (number_of s p t o) ∙ h)
+
+-- A number is below the length of the trace.
+pub number_within : (s : Trace) (p n : ℕ) → number_at s p ≡ Some n → n < length s
+number_within s p n h = go (slice_get s p) refl h
+  where
+    go : (o : Option Event) → slice_get s p ≡ o → option_map (λ e. earlier_events s e.thread p) o ≡ Some n → n < length s
+    go None e k = absurd (none-some n k)
+    go (Some v) e k = omega (arith, same_Some (earlier_events s v.thread p) n k, count_max (of_thread s v.thread) p, slice_get_within s p v e)
 
 -- Of two places of a thread, the one with the lower number is earlier.
 pub position_before : (s : Trace) (slots : ℕ → Option ℕ) (count p q a n m : ℕ) → AreSlots s slots count →

@@ -8,6 +8,6 @@ pub mod Overlays
 pub mod Requirements
 pub mod Propagation
 pub mod Context
-pub mod SlotTable
 pub mod Firsts
 pub mod Pushing
+pub mod Tables

@@ -8,14 +8,13 @@ use Rattle.trace_model.specs.declared.traces.event.Op.TheVariants.{Fork, Join}
 use Rattle.trace_model.specs.Theory.Held.{BeginsOn}
 use Rattle.trace_model.specs.Theory.Lookups.{writer}
 use Rattle.trace_index.specs.Numbers.{number_at}
-use Rattle.fronts.specs.declared.slot_table.SlotTable.{SlotTable}
-use Rattle.fronts.specs.declared.slot_table.LockSlots.{LockSlots}
 use Rattle.fronts.specs.declared.requirements.ThreadPrefix.{ThreadPrefix}
 use Rattle.fronts.specs.declared.requirements.Section.{Section}
 use Rattle.fronts.specs.declared.requirements.Requirement.{Requirement}
 use Rattle.fronts.specs.declared.requirements.Requirement.TheVariants.{Reach, Begin}
 use Rattle.fronts.specs.declared.requirements.Item.{Item}
-use Rattle.fronts.specs.Slots.{slot_in, slots_of, HasSlotPosition}
+use Rattle.fronts.specs.Slots.{HasSlotPosition}
+use Rattle.fronts.specs.Firsts.{thread_slot_at, lock_slot_at}
 use Rattle.fronts.specs.Requirements.{Needs, IsPrefixThrough, EndsSection, item}
 
 -- A trace, with the slots of its threads and of its locks.
@@ -24,13 +23,9 @@ pub record SlottedTrace : Type 0 where
   pub slots : ℕ → Option ℕ
   pub locks : ℕ → Option ℕ
 
--- A trace with these slots.
-abbrev pub with_slots : Trace → SlotTable → LockSlots → SlottedTrace
-with_slots s threads locks = record {
-  trace = s;
-  slots = slots_of threads;
-  locks = slot_in locks.slots.items;
-}
+-- A trace with the slots that its first places give.
+abbrev pub trace_with_slots : Trace → SlottedTrace
+trace_with_slots s = record { trace = s; slots = thread_slot_at s; locks = lock_slot_at s }
 
 -- The item of a requirement, if there is one.
 abbrev pub requirement_items : ℕ → Option Requirement → List Item

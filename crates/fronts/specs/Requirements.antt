@@ -5,24 +5,19 @@ use Rattle.trace_model.specs.Theory.Trace.{Trace, EarlierInThread}
 use Rattle.trace_model.specs.Theory.Held.{BeginsOn}
 use Rattle.trace_model.specs.Theory.Lookups.{writer, release}
 use Rattle.trace_model.specs.Theory.Reordering.{ForkOrJoin}
-use Rattle.fronts.specs.declared.slot_table.LockSlots.{LockSlots}
 use Rattle.fronts.specs.declared.requirements.ThreadPrefix.{ThreadPrefix}
 use Rattle.fronts.specs.declared.requirements.Section.{Section}
 use Rattle.fronts.specs.declared.requirements.Requirement.{Requirement}
 use Rattle.fronts.specs.declared.requirements.Requirement.TheVariants.{Reach, Begin}
 use Rattle.fronts.specs.declared.requirements.Item.{Item}
 use Rattle.fronts.specs.declared.requirements.Requirements.{Requirements}
-use Rattle.fronts.specs.Slots.{slot_in, slots_of, AreThreadSlots, AreTablePlaces, HasSlotPosition}
+use Rattle.fronts.specs.Slots.{slots_of, AreThreadSlots, AreTablePlaces, HasSlotPosition}
 
 -- The slots of the places that begin sections: one slot for each lock.
 pub record AreLocks (s : Trace) (locks : ℕ → Option ℕ) (count : ℕ) : Type 0 where
   pub each : (p k : ℕ) → BeginsOn s p k → (l : ℕ) × (locks p ≡ Some l) × (l < count)
   pub apart : (p q l k : ℕ) → locks p ≡ Some l → locks q ≡ Some l → BeginsOn s p k → BeginsOn s q k
   pub alike : (p q l k : ℕ) → locks p ≡ Some l → BeginsOn s p k → BeginsOn s q k → locks q ≡ Some l
-
--- The slots are those of the trace's locks.
-abbrev pub AreLockSlots : Trace → LockSlots → Type 0
-AreLockSlots s locks = AreLocks s (slot_in locks.slots.items) locks.count
 
 -- A set that contains `q` has to contain `r`.
 abbrev pub Needs : Trace → ℕ → ℕ → Type 0

@@ -1,16 +1,12 @@
 -- Places by the slot of their thread and their number in it.
 use Rattle.std.specs.Prelude.{◌≡◌, ℕ, ◌<◌, nat_lt, Bool, false, IsTrue, List, length, slice_get, Option, Some}
-use Rattle.std.specs.Option.{option_map, option_map_or, option_and_then}
+use Rattle.std.specs.Option.{option_map, option_map_or}
 use Rattle.std.specs.Arc.{arc_value}
 use Rattle.trace_model.specs.Theory.Trace.{Trace, OfThread}
 use Rattle.trace_model.specs.Theory.Closure.{Places}
 use Rattle.trace_index.specs.Numbers.{number_at}
 use Rattle.fronts.specs.declared.slot_table.SlotTable.{SlotTable}
 use Rattle.fronts.specs.declared.requirements.ThreadPrefix.{ThreadPrefix}
-
--- The slot of each place, if it has one.
-abbrev pub slot_in : List (Option ℕ) → ℕ → Option ℕ
-slot_in slots p = option_and_then (λ c. c) (slice_get slots p)
 
 -- The slot of each listed place.
 abbrev pub place_slot : List ThreadPrefix → ℕ → Option ℕ

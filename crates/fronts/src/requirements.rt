@@ -1,22 +1,22 @@
 //! What each place of a trace requires, in tables that are built once for the trace.
 
-ghost use Rattle.std.specs.Prelude.{◌≡◌, ℕ, ◌+◌, ◌<◌, ◌^◌, length, ◌++◌, slice_get, Some, IfSome, OnOk, IfOk, IsTrue};
+ghost use Rattle.std.specs.Prelude.{◌≡◌, ◌+◌, ◌<◌, ◌^◌, length, ◌++◌, slice_get, Some, IfSome, OnOk, IfOk, IsTrue};
 ghost use Rattle.trace_index.specs.Numbers.{thread_before};
 ghost use Rattle.trace_index.specs.Facts.{ArePlaceFacts};
-ghost use Rattle.fronts.specs.Slots.{slot_in, place_slot, slots_of, AreTablePlaces, AreThreadSlots, HasSlotPosition};
-ghost use Rattle.fronts.specs.Requirements.{AreLockSlots, IsPrefixThrough, EndsSection};
-ghost use Rattle.fronts.specs.Pushing.{SlottedTrace, IsRequired, IsRedundant, AddsReach, requirement_items, with_slots, IsStart, IsFirstNeed, IsLastNeed, IsBegin, IsBare, AddsRequirements, AreAllBuilt};
-ghost use Rattle.fronts.specs.SlotTable.{AreSlotNumbers, next_slot};
-ghost use Rattle.fronts.specs.Firsts.{first_of_thread, first_of_lock};
+ghost use Rattle.fronts.specs.Slots.{slots_of, AreThreadSlots, HasSlotPosition};
+ghost use Rattle.fronts.specs.Requirements.{IsPrefixThrough, EndsSection};
+ghost use Rattle.fronts.specs.Pushing.{IsRequired, IsRedundant, AddsReach, requirement_items, trace_with_slots, IsStart, IsFirstNeed, IsLastNeed, IsBegin, IsBare, AddsRequirements, AreAllBuilt};
+ghost use Rattle.fronts.specs.Firsts.{thread_slot_at, lock_slot_at, threads_below, locks_below};
+ghost use Rattle.fronts.specs.Tables.{AreSlotPositions, AreLockSlots};
 
 use crate::item_cache::ItemCache;
 use crate::positions::Positions;
-use crate::slot_table::{LockSlots, SlotTable, count_with, next_count, prefix_at, slot_at};
+use crate::slot_table::{SlotTable, next_count};
 use segments::MaybeIndex;
 use std::alloc::Global;
 use std::sync::Arc;
 use trace_index::{PlaceFacts, TraceIndex};
-use trace_model::{Event, NoMemory, Op, Place};
+use trace_model::{NoMemory, Op, Place};
 
 /// The first places of a thread.
 #[derive(Clone, Copy)]
@@ -63,11 +63,19 @@ pub struct Requirements {
     pub(crate) items: Vec<Vec<Item>>,
 }
 
-/// The slots of the threads and of the locks.
+/// The tables of the places so far.
 #[derive(Drop)]
-struct SlotTables {
-    threads: SlotTable,
-    locks: LockSlots,
+struct Tables {
+    /// For each place the prefix of its thread that is before it.
+    positions: Vec<ThreadPrefix>,
+    /// For each place that begins a critical section the slot of its lock.
+    locks: Vec<MaybeIndex>,
+    /// The number of locks.
+    lock_count: u32,
+    /// The requirements of the places of each thread.
+    items: Vec<Vec<Item>>,
+    /// Finds redundant requirements.
+    cache: ItemCache,
 }
 
 /// Returns the facts of `place`.
@@ -80,94 +88,50 @@ fn facts_at(index: &TraceIndex, place: usize) -> PlaceFacts
     index.facts(Place::new(place as u32)).unwrap()
 }
 
-/// Returns the thread slot of the next place: that of the place before it in its thread, or a new
-/// one. `before` is that place.
+/// Returns the thread slot of the next place after those listed: that of the place before it in its
+/// thread, or a new one. `before` is that place, and `count` the number of threads so far.
 #[inline(always)]
 fn thread_slot(
     _index: &TraceIndex,
     positions: &[ThreadPrefix],
     before: Option<Place>,
-    _place: usize,
     count: u32,
 ) -> u32
-    requires within { _place < length _index.now.events }
-    requires slots { AreSlotNumbers (first_of_thread _index.now.events)
-        (place_slot positions.now) count _place }
-    requires before { thread_before _index.now.events _place ≡ before }
-    ensures { Some result ≡ next_slot (place_slot positions.now)
-        (first_of_thread _index.now.events _place) _place count }
+    requires positions { AreSlotPositions _index.now.events positions.now }
+    requires within { length positions.now < length _index.now.events }
+    requires before { thread_before _index.now.events (length positions.now) ≡ before }
+    requires count { count ≡ threads_below _index.now.events (length positions.now) }
+    ensures { thread_slot_at _index.now.events (length positions.now) ≡ Some result }
 {
     match before {
-        Some(before) => prefix_at(positions, before).unwrap().slot,
+        Some(before) => positions[before.get() as usize].slot,
         None => count,
     }
 }
 
-/// Returns the lock slot of the next place: that of the outermost acquire of the lock before it, or
-/// a new one. `none` if the place does not begin a section. `facts` are those of the place.
+/// Returns the lock slot of the next place after those listed: that of the outermost acquire of the
+/// lock before it, or a new one. `none` if the place does not begin a section. `facts` are those of
+/// the place, and `count` is the number of locks so far.
 #[inline(always)]
 fn lock_slot(
     _index: &TraceIndex,
-    slots: &[MaybeIndex],
+    locks: &[MaybeIndex],
     facts: &PlaceFacts,
-    _place: usize,
     count: u32,
 ) -> MaybeIndex
-    requires slots { AreSlotNumbers (first_of_lock _index.now.events)
-        (slot_in slots.now) count _place }
-    requires facts { ArePlaceFacts _index.now.events _place facts.now }
+    requires locks { AreLockSlots _index.now.events locks.now }
+    requires facts { ArePlaceFacts _index.now.events (length locks.now) facts.now }
+    requires count { count ≡ locks_below _index.now.events (length locks.now) }
     requires few { count < 4294967295 }
-    ensures { result ≡ next_slot (slot_in slots.now)
-        (first_of_lock _index.now.events _place) _place count }
+    ensures { lock_slot_at _index.now.events (length locks.now) ≡ result }
 {
     let Some(_lock) = facts.begun else {
         return MaybeIndex::none();
     };
     match facts.acquire_before {
-        Some(before) => slot_at(slots, before),
+        Some(before) => locks[before.get() as usize],
         None => MaybeIndex::at(count),
     }
-}
-
-/// Returns the slots of the threads and of the locks.
-///
-/// # Errors
-/// `NoMemory` if an allocation fails.
-#[inline(never)]
-fn slot_tables(alloc: Global, index: &TraceIndex) -> Result<SlotTables, NoMemory>
-    ensures threads { IfOk result (λ tables. AreThreadSlots index.now.events tables.threads) }
-    ensures positions { IfOk result (λ tables. AreTablePlaces index.now.events tables.threads) }
-    ensures locks { IfOk result (λ tables. AreLockSlots index.now.events tables.locks) }
-{
-    let _len = index.len(); // for the proof
-    let mut positions: Vec<ThreadPrefix> = Vec::with_capacity(alloc, index.len())?;
-    let mut locks: Vec<MaybeIndex> = Vec::with_capacity(alloc, index.len())?;
-    let mut thread_count = 0;
-    let mut lock_count = 0;
-    for place in 0..index.len() {
-        let facts = facts_at(index, place);
-        let before = facts.thread_before;
-        let slot = thread_slot(index, positions.as_slice(), before, place, thread_count);
-        let lock = lock_slot(index, locks.as_slice(), &facts, place, lock_count);
-        positions.push_reserved(ThreadPrefix {
-            slot,
-            count: facts.number,
-        });
-        locks.push_reserved(lock);
-        thread_count = count_with(slot, thread_count);
-        lock_count = next_count(lock, lock_count);
-    }
-    let positions = Positions::of(alloc, positions)?;
-    Ok(SlotTables {
-        threads: SlotTable {
-            positions: Arc::new(alloc, positions)?,
-            count: thread_count,
-        },
-        locks: LockSlots {
-            slots: locks,
-            count: lock_count,
-        },
-    })
 }
 
 /// Returns the prefix of its thread that is before `place`.
@@ -185,26 +149,15 @@ pub fn prefix_before(index: &TraceIndex, threads: &SlotTable, place: Place) -> T
     }
 }
 
-/// Returns the prefix of its thread that is before `place`. Reads only the table.
+/// Returns the prefix of its thread that ends with the listed `place`.
 #[inline(always)]
-fn position_of(_index: &TraceIndex, threads: &SlotTable, place: Place) -> ThreadPrefix
-    requires positions { AreTablePlaces _index.now.events threads.now }
-    requires in_trace { place < length _index.now.events }
-    ensures { HasSlotPosition _index.now.events
-        (slots_of threads.now) place result.slot result.count }
-{
-    threads.positions.get(place).unwrap()
-}
-
-/// Returns the prefix of its thread that ends with `place`.
-#[inline(always)]
-fn prefix_through(index: &TraceIndex, threads: &SlotTable, place: Place) -> ThreadPrefix
-    requires positions { AreTablePlaces index.now.events threads.now }
-    requires in_trace { place < length index.now.events }
-    ensures { IsPrefixThrough index.now.events (slots_of threads.now) result place }
+fn prefix_through(index: &TraceIndex, positions: &[ThreadPrefix], place: Place) -> ThreadPrefix
+    requires positions { AreSlotPositions index.now.events positions.now }
+    requires listed { place < length positions.now }
+    ensures { IsPrefixThrough index.now.events (thread_slot_at index.now.events) result place }
 {
     let _len = index.len(); // for the proof
-    let before = position_of(index, threads, place);
+    let before = positions[place.get() as usize];
     ThreadPrefix {
         slot: before.slot,
         count: before.count + 1,
@@ -247,18 +200,18 @@ fn is_redundant(
 #[inline(never)]
 fn push_place(
     index: &TraceIndex,
-    threads: &SlotTable,
+    positions: &[ThreadPrefix],
     items: &mut Vec<Item>,
     cache: &mut ItemCache,
     position: ThreadPrefix,
     place: Place,
 ) -> Result<(), NoMemory>
-    requires positions { AreTablePlaces index.now.events threads.now }
-    requires in_trace { place < length index.now.events }
-    ensures { OnOk result (AddsReach index.now.events (slots_of threads.now) position (Some place)
-        items.old.items items.new.items) }
+    requires positions { AreSlotPositions index.now.events positions.now }
+    requires listed { place < length positions.now }
+    ensures { OnOk result (AddsReach index.now.events (thread_slot_at index.now.events) position
+        (Some place) items.old.items items.new.items) }
 {
-    let prefix = prefix_through(index, threads, place);
+    let prefix = prefix_through(index, positions, place);
     if is_redundant(items.as_slice(), cache, position, prefix) {
         return Ok(());
     }
@@ -275,31 +228,35 @@ fn push_place(
 #[inline(always)]
 fn push_reach(
     index: &TraceIndex,
-    threads: &SlotTable,
+    positions: &[ThreadPrefix],
     items: &mut Vec<Item>,
     cache: &mut ItemCache,
     position: ThreadPrefix,
     place: Option<Place>,
 ) -> Result<(), NoMemory>
-    requires positions { AreTablePlaces index.now.events threads.now }
-    requires in_trace { IfSome place (λ p. p < length index.now.events) }
-    ensures { OnOk result (AddsReach index.now.events (slots_of threads.now) position place
-        items.old.items items.new.items) }
+    requires positions { AreSlotPositions index.now.events positions.now }
+    requires listed { IfSome place (λ p. p < length positions.now) }
+    ensures { OnOk result (AddsReach index.now.events (thread_slot_at index.now.events) position
+        place items.old.items items.new.items) }
 {
     match place {
-        Some(place) => push_place(index, threads, items, cache, position, place),
+        Some(place) => push_place(index, positions, items, cache, position, place),
         None => Ok(()),
     }
 }
 
-/// Returns the section that begins at `place`.
-fn section_at(index: &TraceIndex, threads: &SlotTable, place: Place) -> Section
-    requires positions { AreTablePlaces index.now.events threads.now }
+/// Returns the section that begins at `place`. `slot` is that of its thread, which also releases.
+fn section_at(index: &TraceIndex, place: Place, slot: u32) -> Section
+    requires slot { thread_slot_at index.now.events place ≡ Some slot }
     ensures place { result.place ≡ place }
-    ensures end { EndsSection index.now.events (slots_of threads.now) result }
+    ensures end { EndsSection index.now.events (thread_slot_at index.now.events) result }
 {
+    let _len = index.len(); // for the proof
     let end = match index.release_of(place) {
-        Some(release) => prefix_through(index, threads, release),
+        Some(release) => ThreadPrefix {
+            slot,
+            count: index.number(release).unwrap() + 1,
+        },
         None => ThreadPrefix { slot: 0, count: 0 },
     };
     Section { place, end }
@@ -342,27 +299,16 @@ fn last_need(index: &TraceIndex, _place: Place, facts: &PlaceFacts) -> Option<Pl
     }
 }
 
-/// Returns the requirement of the section that begins at `place`, if one does. `facts` are those of
-/// the place.
+/// Returns the requirement of the section that begins at `place`, if one does. `slot` is that of
+/// its thread, and `lock` that of its lock.
 #[inline(always)]
-fn begin_of(
-    index: &TraceIndex,
-    threads: &SlotTable,
-    locks: &LockSlots,
-    place: Place,
-    facts: &PlaceFacts,
-) -> Option<Requirement>
-    requires facts { ArePlaceFacts index.now.events place facts.now }
-    requires positions { AreTablePlaces index.now.events threads.now }
-    requires locks { AreLockSlots index.now.events locks.now }
-    ensures { IsBegin (with_slots index.now.events threads.now locks.now) place result }
+fn begin_of(index: &TraceIndex, place: Place, slot: u32, lock: MaybeIndex) -> Option<Requirement>
+    requires slot { thread_slot_at index.now.events place ≡ Some slot }
+    requires lock { lock_slot_at index.now.events place ≡ lock }
+    ensures { IsBegin (trace_with_slots index.now.events) place result }
 {
-    match facts.begun {
-        Some(_) => {
-            let section = section_at(index, threads, place);
-            let lock = locks.get(place).unwrap();
-            Some(Requirement::Begin(lock, section))
-        }
+    match lock.get() {
+        Some(lock) => Some(Requirement::Begin(lock, section_at(index, place, slot))),
         None => None,
     }
 }
@@ -370,15 +316,9 @@ fn begin_of(
 /// Returns `true` only if the place requires nothing but what thread order includes: it is not the
 /// first of its thread, and forks, writes or releases. `facts` are those of the place.
 #[inline(always)]
-fn is_bare(
-    _index: &TraceIndex,
-    _threads: &SlotTable,
-    _locks: &LockSlots,
-    _place: Place,
-    facts: &PlaceFacts,
-) -> bool
+fn is_bare(_index: &TraceIndex, _place: Place, facts: &PlaceFacts) -> bool
     requires { ArePlaceFacts _index.now.events _place facts.now }
-    ensures { IsTrue result → IsBare (with_slots _index.now.events _threads.now _locks.now) _place }
+    ensures { IsTrue result → IsBare (trace_with_slots _index.now.events) _place }
 {
     match facts.event.op {
         Op::Fork(_) | Op::Write(_) | Op::Release(_) => facts.number > 0,
@@ -404,38 +344,40 @@ fn push_requirement(
     Ok(())
 }
 
-/// Appends the requirements of `place`, which is at `position`. `facts` are those of the place, and
-/// `cache` finds redundant requirements, which are left out.
+/// Appends the requirements of `place`, which is at `position`. `positions` are those of the
+/// earlier places, `lock` is the place's lock slot, `facts` are those of the place, and `cache`
+/// finds redundant requirements, which are left out.
 ///
 /// # Errors
 /// `NoMemory` if an allocation fails; some may have been appended.
+#[inline(never)]
 fn push_requirements(
     index: &TraceIndex,
-    threads: &SlotTable,
-    locks: &LockSlots,
+    positions: &[ThreadPrefix],
     items: &mut Vec<Item>,
     cache: &mut ItemCache,
     place: Place,
     position: ThreadPrefix,
+    lock: MaybeIndex,
     facts: &PlaceFacts,
 ) -> Result<(), NoMemory>
-    requires slots { AreThreadSlots index.now.events threads.now }
-    requires positions { AreTablePlaces index.now.events threads.now }
-    requires locks { AreLockSlots index.now.events locks.now }
-    requires in_trace { place < length index.now.events }
+    requires positions { AreSlotPositions index.now.events positions.now }
+    requires next { length positions.now ≡ place }
     requires facts { ArePlaceFacts index.now.events place facts.now }
     requires position { HasSlotPosition index.now.events
-        (slots_of threads.now) place position.slot position.count }
-    ensures { OnOk result (AddsRequirements (with_slots index.now.events threads.now locks.now)
-        place items.old.items items.new.items) }
+        (thread_slot_at index.now.events) place position.slot position.count }
+    requires lock { lock_slot_at index.now.events place ≡ lock }
+    ensures { OnOk result (AddsRequirements (trace_with_slots index.now.events) place
+        items.old.items items.new.items) }
 {
+    let _len = index.len(); // for the proof
     let start = start_of(index, place, facts);
     let first = first_need(index, place, facts);
     let last = last_need(index, place, facts);
-    let begin = begin_of(index, threads, locks, place, facts);
-    push_reach(index, threads, items, cache, position, start)?;
-    push_reach(index, threads, items, cache, position, first)?;
-    push_reach(index, threads, items, cache, position, last)?;
+    let begin = begin_of(index, place, position.slot, lock);
+    push_reach(index, positions, items, cache, position, start)?;
+    push_reach(index, positions, items, cache, position, first)?;
+    push_reach(index, positions, items, cache, position, last)?;
     push_requirement(items, position.count, begin)
 }
 
@@ -447,91 +389,135 @@ fn listed(items: &[Item], j: usize) -> Option<Item>
     items.get(j).copied()
 }
 
-/// Returns an empty list of items for each of `count` threads.
+/// Appends an empty list if the thread slot of the next place is a new one.
 ///
 /// # Errors
 /// `NoMemory` if an allocation fails.
-fn no_items(alloc: Global, count: u32) -> Result<Vec<Vec<Item>>, NoMemory>
-    ensures length { IfOk result (λ lists. length lists.items ≡ count) }
-    ensures built { IfOk result (λ lists. (v : SlottedTrace) → AreAllBuilt v 0 lists.items) }
+#[inline(always)]
+fn push_list(
+    alloc: Global,
+    _index: &TraceIndex,
+    lists: &mut Vec<Vec<Item>>,
+    _place: usize,
+    slot: u32,
+) -> Result<(), NoMemory>
+    requires slot { thread_slot_at _index.now.events _place ≡ Some slot }
+    requires count { length lists.old.items ≡ threads_below _index.now.events _place }
+    requires built { AreAllBuilt (trace_with_slots _index.now.events) _place lists.old.items }
+    ensures count { OnOk result (length lists.new.items
+        ≡ threads_below _index.now.events (_place + 1)) }
+    ensures built { OnOk result (AreAllBuilt (trace_with_slots _index.now.events) _place
+        lists.new.items) }
 {
-    let mut lists = Vec::with_capacity(alloc, count as usize)?;
-    for _slot in 0..count {
-        lists.push_reserved(Vec::new(alloc));
+    if slot as usize == lists.len() {
+        lists.push(Vec::new(alloc))?;
     }
-    Ok(lists)
+    Ok(())
 }
 
-/// Appends the requirements of `place` to the list of its thread. `facts` are those of the place.
+/// Appends the requirements of `place` to the list of its thread. Most places have none. The other
+/// parameters are those of `push_requirements`.
 ///
 /// # Errors
 /// `NoMemory` if an allocation fails.
-#[inline(never)]
+#[inline(always)]
 fn fill_place(
     index: &TraceIndex,
-    threads: &SlotTable,
-    locks: &LockSlots,
+    positions: &[ThreadPrefix],
     lists: &mut Vec<Vec<Item>>,
     cache: &mut ItemCache,
     place: Place,
+    position: ThreadPrefix,
+    lock: MaybeIndex,
     facts: &PlaceFacts,
 ) -> Result<(), NoMemory>
-    requires slots { AreThreadSlots index.now.events threads.now }
+    requires positions { AreSlotPositions index.now.events positions.now }
+    requires next { length positions.now ≡ place }
     requires facts { ArePlaceFacts index.now.events place facts.now }
-    requires positions { AreTablePlaces index.now.events threads.now }
-    requires locks { AreLockSlots index.now.events locks.now }
-    requires in_trace { place < length index.now.events }
-    requires length { length lists.old.items ≡ threads.now.count }
-    requires built { AreAllBuilt (with_slots index.now.events threads.now locks.now)
-        place lists.old.items }
-    ensures length { length lists.new.items ≡ threads.now.count }
-    ensures built { OnOk result (AreAllBuilt (with_slots index.now.events threads.now locks.now)
-        (place + 1) lists.new.items) }
+    requires position { HasSlotPosition index.now.events
+        (thread_slot_at index.now.events) place position.slot position.count }
+    requires lock { lock_slot_at index.now.events place ≡ lock }
+    requires count { length lists.old.items ≡ threads_below index.now.events (place + 1) }
+    requires built { AreAllBuilt (trace_with_slots index.now.events) place lists.old.items }
+    ensures count { length lists.new.items ≡ threads_below index.now.events (place + 1) }
+    ensures built { OnOk result (AreAllBuilt (trace_with_slots index.now.events) (place + 1)
+        lists.new.items) }
 {
-    let position = position_of(index, threads, place);
-    push_requirements(
-        index,
-        threads,
-        locks,
-        &mut lists[position.slot as usize],
-        cache,
-        place,
-        position,
-        facts,
-    )
+    if is_bare(index, place, facts) {
+        return Ok(());
+    }
+    let items = &mut lists[position.slot as usize];
+    push_requirements(index, positions, items, cache, place, position, lock, facts)
 }
 
-/// Appends the requirements of all places to the lists of their threads. Most places have none.
-///
-/// # Errors
-/// `NoMemory` if an allocation fails.
-#[inline(never)]
-fn fill(
-    index: &TraceIndex,
-    threads: &SlotTable,
-    locks: &LockSlots,
-    lists: &mut Vec<Vec<Item>>,
-) -> Result<(), NoMemory>
-    requires slots { AreThreadSlots index.now.events threads.now }
-    requires positions { AreTablePlaces index.now.events threads.now }
-    requires locks { AreLockSlots index.now.events locks.now }
-    requires length { length lists.old.items ≡ threads.now.count }
-    requires built { AreAllBuilt (with_slots index.now.events threads.now locks.now)
-        0 lists.old.items }
-    ensures length { length lists.new.items ≡ threads.now.count }
-    ensures built { OnOk result (AreAllBuilt (with_slots index.now.events threads.now locks.now)
-        (length index.now.events) lists.new.items) }
-{
-    let _len = index.len(); // for the proof
-    let mut cache = ItemCache::new();
-    for place in 0..index.len() {
+impl Tables {
+    ghost use Rattle.fronts.specs.Requirements.{AreRequirements};
+    ghost use Rattle.fronts.specs.Tables.{AreRequirementTables};
+
+    /// Appends the next place.
+    ///
+    /// # Errors
+    /// `NoMemory` if an allocation fails.
+    #[inline(always)]
+    fn push(&mut self, alloc: Global, index: &TraceIndex, place: usize) -> Result<(), NoMemory>
+        requires within { place < length index.now.events }
+        requires tables { AreRequirementTables index.now.events place self.old }
+        ensures { OnOk result (AreRequirementTables index.now.events (place + 1) self.new) }
+    {
+        let _len = index.len(); // for the proof
         let facts = facts_at(index, place);
-        let place = Place::new(place as u32);
-        if !is_bare(index, threads, locks, place, &facts) {
-            fill_place(index, threads, locks, lists, &mut cache, place, &facts)?;
-        }
+        let count = self.items.len() as u32;
+        let slot = thread_slot(index, self.positions.as_slice(), facts.thread_before, count);
+        let lock = lock_slot(index, self.locks.as_slice(), &facts, self.lock_count);
+        let position = ThreadPrefix {
+            slot,
+            count: facts.number,
+        };
+        push_list(alloc, index, &mut self.items, place, slot)?;
+        fill_place(
+            index,
+            self.positions.as_slice(),
+            &mut self.items,
+            &mut self.cache,
+            Place::new(place as u32),
+            position,
+            lock,
+            &facts,
+        )?;
+        self.positions.push_reserved(position);
+        self.locks.push_reserved(lock);
+        self.lock_count = next_count(lock, self.lock_count);
+        Ok(())
     }
-    Ok(())
+
+    /// Returns the requirements of the trace.
+    ///
+    /// # Errors
+    /// `NoMemory` if an allocation fails.
+    fn into_requirements(self, alloc: Global, index: &TraceIndex) -> Result<Requirements, NoMemory>
+        requires { AreRequirementTables index.now.events (length index.now.events) self }
+        ensures { IfOk result (AreRequirements index.now.events) }
+    {
+        let _len = index.len(); // for the proof
+        let Tables {
+            positions,
+            locks,
+            lock_count,
+            items,
+            ..
+        } = self;
+        drop(locks);
+        let count = items.len() as u32;
+        let positions = Positions::of(alloc, positions)?;
+        Ok(Requirements {
+            threads: SlotTable {
+                positions: Arc::new(alloc, positions)?,
+                count,
+            },
+            lock_count,
+            items,
+        })
+    }
 }
 
 impl Requirements {
@@ -555,13 +541,16 @@ impl Requirements {
     pub fn build(alloc: Global, index: &TraceIndex) -> Result<Requirements, NoMemory>
         ensures { IfOk result (AreRequirements index.now.events) }
     {
-        let SlotTables { threads, locks } = slot_tables(alloc, index)?;
-        let mut items = no_items(alloc, threads.count)?;
-        fill(index, &threads, &locks, &mut items)?;
-        Ok(Requirements {
-            threads,
-            lock_count: locks.count,
-            items,
-        })
+        let mut tables = Tables {
+            positions: Vec::with_capacity(alloc, index.len())?,
+            locks: Vec::with_capacity(alloc, index.len())?,
+            lock_count: 0,
+            items: Vec::new(alloc),
+            cache: ItemCache::new(),
+        };
+        for place in 0..index.len() {
+            tables.push(alloc, index, place)?;
+        }
+        tables.into_requirements(alloc, index)
     }
 }

@@ -1,8 +1,9 @@
-use Rattle.std.proofs.Common.{refl}
-use Rattle.fronts.proofs.BuildLemmas.{requirements_built}
+use Rattle.std.proofs.Common.{◌≡◌, length, subst, arith}
+use Rattle.fronts.specs.Tables.{AreRequirementTables}
 use Rattle.fronts.proofs.requirements.Requirements.build.Goals as goal
 
-pub returns : goal.returns
-returns c =
-    let tables = c.in_ok-threads.ensures in
-    requirements_built c.args.index.now.events _ c.in_ok-threads.field-0.locks tables.threads tables.positions tables.locks refl c.fill.ensures.length c.in_ok-fill.ensures.built
+pub into_requirements-requires : goal.into_requirements-requires
+into_requirements-requires c =
+    let s = c.args.index.now.events in
+    let at_end : c.loop-place.place ≡ length s = omega (arith, c.loop-place-test.false, c.len-place-end.ensures.length, c.loop-place.auto.place-end) in
+    subst (λ p. AreRequirementTables s p c.loop-place.tables) at_end c.loop-place.invariant
