@@ -1,5 +1,6 @@
 -- What contracts see of an analysis, and which tables it has.
 use Rattle.std.specs.Prelude.{◌≡◌, ℕ, List, Option, Some, MatchOption}
+use Rattle.std.specs.Global.{Box}
 use Rattle.std.specs.Option.{ForSome}
 use Rattle.trace_model.specs.Theory.Trace.{Trace}
 use Rattle.trace_model.specs.Theory.Cycles.{IsCycle}
@@ -41,6 +42,6 @@ pub record AreAnalysisTables (s : Trace) (bound : ℕ) (tables : Tables) : Type 
   pub timestamps : ForSome tables.timestamps (AreTimestamps s)
 
 -- The scratch is one over the trace with these requirements.
-abbrev pub IsScratchOf : Trace → Option Requirements → ClosureScratch → Type 0
+abbrev pub IsScratchOf : Trace → Option Requirements → Box ClosureScratch → Type 0
 IsScratchOf s requirements scratch =
-    (d : Requirements) → requirements ≡ Some d → IsScratch s d scratch
+    (d : Requirements) → requirements ≡ Some d → IsScratch s d scratch.value

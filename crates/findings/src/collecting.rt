@@ -34,7 +34,7 @@ struct RowsOf<'a, C: Drop> {
     snapshot: &'a Snapshot,
     tables: &'a Tables,
     bound: Bound,
-    scratch: Option<ClosureScratch>,
+    scratch: Option<Box<ClosureScratch>>,
     rows: C,
 }
 
@@ -90,7 +90,7 @@ pub(crate) fn collect_by<C: Collector<Row> + Drop>(
     alloc: Global,
     snapshot: &Snapshot,
     tables: &Tables,
-    scratch: &mut Option<ClosureScratch>,
+    scratch: &mut Option<Box<ClosureScratch>>,
     bound: Bound,
     task: u32,
     rows: C,

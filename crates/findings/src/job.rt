@@ -32,7 +32,8 @@ pub struct Job {
     alloc: Global,
     analysis: Arc<Analysis, Global>,
     question: u32,
-    scratch: Option<ClosureScratch>,
+    /// In a box, since it is large and each [`Job::collect`] moves it.
+    scratch: Option<Box<ClosureScratch>>,
 }
 
 impl Drop for Job {
@@ -179,7 +180,7 @@ fn finding_of(
     alloc: Global,
     analysis: &Analysis,
     question: u32,
-    scratch: &mut Option<ClosureScratch>,
+    scratch: &mut Option<Box<ClosureScratch>>,
     task: u32,
 ) -> Result<Finding, ComputeRefused>
     requires scratch { ForSome scratch.old
@@ -214,7 +215,7 @@ fn advanced_by(
     alloc: Global,
     analysis: &Analysis,
     question: u32,
-    scratch: &mut Option<ClosureScratch>,
+    scratch: &mut Option<Box<ClosureScratch>>,
     search: TaskSearch,
     visits: u64,
 ) -> Result<Advanced, ComputeRefused>
@@ -260,7 +261,7 @@ fn advanced_by(
 /// Those of [`Job::collect`].
 fn collected_by<C: Collector<Row> + Drop>(
     analysis: &Analysis,
-    scratch: &mut Option<ClosureScratch>,
+    scratch: &mut Option<Box<ClosureScratch>>,
     alloc: Global,
     task: u32,
     rows: C,

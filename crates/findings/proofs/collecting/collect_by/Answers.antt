@@ -13,7 +13,7 @@ returns-in-Ok-Ok-clause-scratch g c kept is d at =
     let cycle = CycleFrom (dependencies c.args.snapshot.now) c.args.bound c.args.task in
     let fact = took_all g.C.Collector.taking cycle start c.collect.new.collector c.in-Ok-Ok.field-0 c.in-Ok-Ok.ensures _ c.in-Ok-Ok.field-0-is in
     let view = c.collector.view_is in
-    subst (λ (s : Trace). IsScratch s d kept) (ap (λ (r : RowsView g.row.C.Denot). r.events) view ∙ fact.0.events)
+    subst (λ (s : Trace). IsScratch s d kept.value) (ap (λ (r : RowsView g.row.C.Denot). r.events) view ∙ fact.0.events)
     (c.collector.invariant.1 kept is d (ap (λ (r : RowsView g.row.C.Denot). r.requirements) view ∙ (fact.0.requirements ∙ at)))
 
 pub returns-in-Ok-Ok-clause-rows : goal.returns-in-Ok-Ok-clause-rows

@@ -9,7 +9,7 @@ use Rattle.findings.proofs.job.advanced_by.Goals as goal
 pub rows_within-requires-clause-scratch : goal.rows_within-requires-clause-scratch
 rows_within-requires-clause-scratch c kept is d at =
     let view = c.analysis.view_is in
-    subst (λ (s : Trace). IsScratch s d kept) (sym (c.deref.ensures ∙ c.in-Ok.ensures ∙ ap (λ (a : AnalysisView). a.events) view))
+    subst (λ (s : Trace). IsScratch s d kept.value) (sym (c.deref.ensures ∙ c.in-Ok.ensures ∙ ap (λ (a : AnalysisView). a.events) view))
     (c.requires.scratch kept is d (sym (ap (λ (a : AnalysisView). a.requirements) view) ∙ at))
 
 pub rows_within-requires-clause-search : goal.rows_within-requires-clause-search

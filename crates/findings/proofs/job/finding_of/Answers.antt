@@ -21,7 +21,7 @@ rows_of-requires c =
     record {
       tables = subst (λ (s : Trace). AreAnalysisTables s c.analysis.inside.bound c.analysis.inside.tables) (sym same) c.analysis.invariant;
       scratch = λ kept is d at.
-          subst (λ (s : Trace). IsScratch s d kept) (sym (same ∙ ap (λ (a : AnalysisView). a.events) view))
+          subst (λ (s : Trace). IsScratch s d kept.value) (sym (same ∙ ap (λ (a : AnalysisView). a.events) view))
           (c.requires.scratch kept is d (sym (ap (λ (a : AnalysisView). a.requirements) view) ∙ at));
     }
 
@@ -32,7 +32,7 @@ returns-in_err-rows c =
     let fact = err_from_is_err_and c.from_residual.result c.from_residual.ensures.1 in
     record {
       scratch = λ kept is d at.
-          subst (λ (s : Trace). IsScratch s d kept) (same ∙ ap (λ (a : AnalysisView). a.events) view)
+          subst (λ (s : Trace). IsScratch s d kept.value) (same ∙ ap (λ (a : AnalysisView). a.events) view)
           (c.rows_of.ensures.scratch kept is d (ap (λ (a : AnalysisView). a.requirements) view ∙ at));
       asked = IfOk-from_err c.from_residual.result _ c.from_residual.ensures.0;
       too_many = λ e.
@@ -50,7 +50,7 @@ returns c =
     let view = c.analysis.view_is in
     record {
       scratch = λ kept is d at.
-          subst (λ (s : Trace). IsScratch s d kept) (same ∙ ap (λ (a : AnalysisView). a.events) view)
+          subst (λ (s : Trace). IsScratch s d kept.value) (same ∙ ap (λ (a : AnalysisView). a.events) view)
           (c.rows_of.ensures.scratch kept is d (ap (λ (a : AnalysisView). a.requirements) view ∙ at));
       asked = (
         ap (λ (f : RowsOfTask). f.question) c.of.ensures,
