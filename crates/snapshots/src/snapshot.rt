@@ -1,7 +1,6 @@
 //! A trace with its tables.
 
-ghost use Rattle.std.specs.Prelude.{◌≡◌, ◌≤◌, length, slice_get, IfOk, MatchResult};
-ghost use Rattle.std.specs.Result.{IsErr};
+ghost use Rattle.std.specs.Prelude.{◌≡◌, ◌≤◌, length, slice_get, IfOk};
 ghost use Rattle.trace_model.specs.declared.limits.TheConstants.{MAX_EVENTS};
 ghost use Rattle.trace_model.specs.Theory.Dependencies.{dependencies};
 ghost use Rattle.trace_model.specs.Theory.Lawful.{IsWellFormed};
@@ -9,42 +8,17 @@ ghost use Rattle.dependencies.specs.Tables.{HasDependenciesOf};
 ghost use Rattle.lock_graph.specs.Graph.{HasGraphOf};
 ghost use Rattle.lock_tables.specs.Tables.{AreLockPartsOf};
 
+use crate::SnapshotBuilder;
 use dependencies::DepTable;
 use lock_graph::LockGraph;
-use lock_tables::{LockParts, LockTables};
+use lock_tables::LockParts;
 use std::alloc::Global;
 use std::collections::hash_map::RandomState;
 use std::marker::Model;
 use std::sync::Arc;
-use std::thread::{Threads, join};
+use std::thread::Threads;
 use trace_index::TraceIndex;
 use trace_model::{Event, NoMemory, Place};
-
-/// Returns the snapshot of the index's trace with these tables.
-///
-/// # Errors
-/// `NoMemory` if the index or the tables could not be allocated.
-fn assembled(
-    parts: Result<LockParts, NoMemory>,
-    index: Result<TraceIndex, NoMemory>,
-) -> Result<Snapshot, NoMemory>
-    requires { IfOk parts (λ parts. IfOk index (λ index. AreLockPartsOf parts index.events)) }
-    ensures { MatchResult index (λ index. IfOk result (λ snapshot. snapshot ≡ index.events))
-        (λ _. IsErr result) }
-{
-    match (parts, index) {
-        (Ok(parts), Ok(index)) => Ok(Snapshot::of(index, parts)),
-        (Ok(parts), Err(refused)) => {
-            drop(parts);
-            Err(refused)
-        }
-        (Err(refused), Ok(index)) => {
-            drop(index);
-            Err(refused)
-        }
-        (Err(refused), Err(_)) => Err(refused),
-    }
-}
 
 /// A well-formed trace with its index, its dependencies and their graph, which agree by type.
 /// Contracts see it as the trace.
@@ -78,7 +52,8 @@ impl Model for Snapshot {
 
 impl Snapshot {
     /// Builds the snapshot of a well-formed trace. One thread builds the index, another the tables;
-    /// each makes one pass over the events.
+    /// each makes one pass over the events. Part of the public API; not called by the program,
+    /// which uses [`SnapshotBuilder`].
     ///
     /// # Errors
     /// `NoMemory` if an allocation fails.
@@ -91,18 +66,9 @@ impl Snapshot {
         requires { IsWellFormed events.now }
         ensures { IfOk result (λ snapshot. snapshot ≡ events.now) }
     {
-        let (parts, index) = join(
-            rt,
-            || -> Result<LockParts, NoMemory>
-                requires { IsWellFormed events.now }
-                ensures { IfOk result (λ parts. AreLockPartsOf parts events.entry.now) }
-            { LockTables::of(alloc, state, events)?.into_parts() },
-            || -> Result<TraceIndex, NoMemory>
-                requires { IsWellFormed events.now }
-                ensures { IfOk result (λ index. index.events ≡ events.entry.now) }
-            { TraceIndex::build(alloc, state, events) },
-        );
-        assembled(parts, index)
+        SnapshotBuilder::new(alloc, state)
+            .extended(rt, events)?
+            .into_snapshot()
     }
 
     /// Returns the snapshot of the index's trace with these dependencies and this graph. Does not
