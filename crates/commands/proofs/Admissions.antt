@@ -3,18 +3,17 @@ use Rattle.std.proofs.Common.{◌≡◌, ◌⊎◌, List, ℕ, Option, inl, inr,
 use Rattle.std.specs.Prelude.{Result, MatchResult}
 use Rattle.trace_model.specs.Theory.Trace.{Trace}
 use Rattle.wellformed.specs.declared.whole_lists.FirstUnlawful.{FirstUnlawful}
-use Rattle.commands.specs.Admission.{HasBadLine, IsAdmissionOf, refused_at_line}
+use Rattle.commands.specs.Admission.{AreLawfulEventsOf, IsUnlawfulIn, HasBadLine, refused_at_line}
 use Rattle.commands.specs.Exit.{error_status}
 use Rattle.commands.specs.Output.{EndsWithStatus, EndsWithResult, IsJust}
-use Rattle.commands.specs.Replay.{AreLawfulEventsOf, UnlawfulPrints}
-use Rattle.commands.specs.declared.admission.Admission.TheVariants as admissions
+use Rattle.commands.specs.Replay.{UnlawfulPrints}
 use Rattle.commands.specs.declared.exit.CommandError.{CommandError}
 use Rattle.commands.specs.declared.exit.Status.{Status}
 use Rattle.commands.specs.declared.exit.Status.TheVariants.{Refused}
 use Rattle.commands.proofs.Outputs.{ends_as_weaker, ends_weaker, reported_ends}
 
 -- The line of the first event that is not lawful.
-pub unlawful_prints : (file : List ℕ) (first : FirstUnlawful) → IsAdmissionOf file (admissions.Refused first) → (s : Status) (x : List ℕ) → IsJust Refused (refused_at_line first) s x → UnlawfulPrints file s x
+pub unlawful_prints : (file : List ℕ) (first : FirstUnlawful) → IsUnlawfulIn file first → (s : Status) (x : List ℕ) → IsJust Refused (refused_at_line first) s x → UnlawfulPrints file s x
 unlawful_prints file first (events, are, unlawful) s x just = (events, first, are, unlawful, just.0, just.1)
 
 -- The text is right for the events of the trace, or it is the line of the first unlawful one.

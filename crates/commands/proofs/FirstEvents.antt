@@ -9,14 +9,11 @@ use Rattle.trace_model.proofs.Theory.OneMore.{length_well_formed}
 use Rattle.wellformed.specs.declared.whole_lists.FirstUnlawful.{FirstUnlawful}
 use Rattle.wellformed.specs.FirstUnlawful.{IsFirstUnlawful}
 use Rattle.event_files.specs.EventFile.{event_word, AreFirstEventsOf, AreWordsOfEvents}
-use Rattle.offline_report.specs.Offline.{IsOfflineRefusal}
 use Rattle.offline_report.specs.declared.refused.OfflineRefused.{OfflineRefused}
 use Rattle.offline_report.specs.declared.refused.OfflineRefused.TheVariants.{Unlawful, TooLong, TooManyCycles, NoMemory}
-use Rattle.commands.specs.Admission.{IsAdmissionOf}
-use Rattle.commands.specs.Offline.{OfflinePrints, ReportPrints, refused_line}
-use Rattle.commands.specs.declared.admission.Admission.TheVariants as admissions
-use Rattle.commands.specs.declared.exit.Status.{Status}
-use Rattle.commands.specs.declared.exit.Status.TheVariants.{Done, Refused, Error, NotUnderstood}
+use Rattle.commands.specs.Admission.{IsUnlawfulIn}
+use Rattle.commands.specs.Offline.{OfflinePrints, refused_line}
+use Rattle.commands.specs.declared.exit.Status.TheVariants.{Refused}
 
 -- If the first events of a file are lawful, they are all.
 pub lawful_are_all : (file : List ℕ) (kept : Trace) → AreFirstEventsOf kept file → IsWellFormed kept → AreWordsOfEvents kept file
@@ -35,22 +32,18 @@ unlawful_of_all n s kept first is (before, (e, at, refused)) =
       (e, sym (get-take n s i within) ∙ there, subst (λ (k : Trace). refusal_of MAX_EVENTS k e ≡ Some first.refusal) same refused),
     )
 
-pub first_of_all : (file : List ℕ) (kept : Trace) (first : FirstUnlawful) → AreFirstEventsOf kept file → IsFirstUnlawful kept first → IsAdmissionOf file (admissions.Refused first)
+pub first_of_all : (file : List ℕ) (kept : Trace) (first : FirstUnlawful) → AreFirstEventsOf kept file → IsFirstUnlawful kept first → IsUnlawfulIn file first
 first_of_all file kept first (s, are, is) unlawful = (s, are, unlawful_of_all (MAX_EVENTS + 1) s kept first is unlawful)
 
-refusal_prints : (file : List ℕ) (bound : ℕ) (kept : Trace) (refused : OfflineRefused) → AreFirstEventsOf kept file → refused ≢ NoMemory → IsOfflineRefusal kept bound refused →
-    OfflinePrints file bound Refused (refused_line refused)
-refusal_prints file bound kept (Unlawful first) are some unlawful =
-    let all = first_of_all file kept first are unlawful in
-    (all.0, all.1, (Unlawful first, some, all.2, refl))
-refusal_prints file bound kept TooLong are some refused = (kept, lawful_are_all file kept are refused.0, (TooLong, some, refused, refl))
-refusal_prints file bound kept TooManyCycles are some refused = (kept, lawful_are_all file kept are refused.0, (TooManyCycles, some, refused, refl))
-refusal_prints file bound kept NoMemory are some refused = absurd (some refl)
+-- it is not a lack of memory
+abbrev is_named : OfflineRefused → Type 0
+is_named (Unlawful first) = Unit {0}
+is_named TooLong = Unit {0}
+is_named TooManyCycles = Unit {0}
+is_named NoMemory = ⊥
 
--- The text for the first events is right for the file.
-pub first_print : (file : List ℕ) (bound : ℕ) (kept : Trace) → AreFirstEventsOf kept file → (status : Status) (text : List ℕ) → ReportPrints kept bound status text → OfflinePrints file bound status text
-first_print file bound kept are Done text prints = (kept, lawful_are_all file kept are prints.0, prints)
-first_print file bound kept are Refused text (refused, some, is, line) =
-    subst (OfflinePrints file bound Refused) (sym line) (refusal_prints file bound kept refused are some is)
-first_print file bound kept are Error text prints = absurd prints
-first_print file bound kept are NotUnderstood text prints = absurd prints
+-- The line of the first unlawful event is right for the file.
+pub unlawful_report : (file : List ℕ) (bound : ℕ) (first : FirstUnlawful) → IsUnlawfulIn file first → OfflinePrints file bound Refused (refused_line (Unlawful first))
+unlawful_report file bound first (events, are, unlawful) =
+    let some : Unlawful first ≢ NoMemory = λ same. subst is_named same tt in
+    (events, are, (Unlawful first, some, unlawful, refl))

@@ -18,3 +18,4 @@ pub mod ExplainedTexts
 pub mod Refuted
 pub mod Batches
 pub mod FirstEvents
+pub mod AdmittedBlocks

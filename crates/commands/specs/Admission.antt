@@ -11,12 +11,19 @@ use Rattle.commands.specs.declared.admission.Admission.TheVariants.{Admitted, Re
 use Rattle.commands.specs.declared.exit.CommandError.{CommandError}
 use Rattle.commands.specs.declared.exit.CommandError.TheVariants.{Line, Merged, Memory, Output}
 
+-- the events of the file, which form a well-formed trace
+abbrev pub AreLawfulEventsOf : Trace → List ℕ → Type 0
+AreLawfulEventsOf events file = AreWordsOfEvents events file × IsWellFormed events
+
+-- the first of the file's events that is not lawful after those before it
+abbrev pub IsUnlawfulIn : List ℕ → FirstUnlawful → Type 0
+IsUnlawfulIn file first =
+    (events : Trace) × AreWordsOfEvents events file × IsFirstUnlawful events first
+
 -- either the file's events, which form a well-formed trace, or the first of them that is not lawful
 abbrev pub IsAdmissionOf : List ℕ → Admission → Type 0
-IsAdmissionOf file (Admitted events) = AreWordsOfEvents events.items file
-    × IsWellFormed events.items
-IsAdmissionOf file (Refused first) =
-    (events : Trace) × AreWordsOfEvents events file × IsFirstUnlawful events first
+IsAdmissionOf file (Admitted events) = AreLawfulEventsOf events.items file
+IsAdmissionOf file (Refused first) = IsUnlawfulIn file first
 
 -- the line with this number, counted from 1, is the file's first that is not understood
 abbrev pub IsFirstBadIn : List ℕ → ℕ → Type 0

@@ -16,11 +16,11 @@ use Rattle.replay.specs.Refuting.{IsRefutationVerdict}
 use Rattle.replay.specs.Verdict.{IsVerdict}
 use Rattle.replay.specs.declared.refutation_verdict.RefutationVerdict.TheVariants.{Valid, UnknownNumber, WrongStep, AfterEnd, PlaceLeft}
 use Rattle.replay.specs.declared.verdict.Verdict.TheVariants.{Reaches, Fails}
-use Rattle.commands.specs.Admission.{HasBadLine}
+use Rattle.commands.specs.Admission.{AreLawfulEventsOf, HasBadLine}
 use Rattle.commands.specs.CheckWords.{checked_line, head_verdict_line}
 use Rattle.commands.specs.ExplainedRows.{IsRowFault, IsRowOf}
 use Rattle.commands.specs.Output.{EndsWithStatus}
-use Rattle.commands.specs.Replay.{AreLawfulEventsOf, UnlawfulPrints}
+use Rattle.commands.specs.Replay.{UnlawfulPrints}
 use Rattle.commands.specs.declared.check_verdicts.HeadVerdict.{HeadVerdict}
 use Rattle.commands.specs.declared.check_verdicts.HeadVerdict.TheVariants as heads
 use Rattle.commands.specs.declared.check_verdicts.CheckedLine.{CheckedLine}

@@ -17,11 +17,11 @@ use Rattle.commands.specs.declared.refuting.RefutedRow.{RefutedRow}
 use Rattle.offline_report.specs.Offline.{AreTasks, first_line_of, printed_rows, rows_by_task}
 use Rattle.cycle_search.specs.CycleSearch.{CycleFrom, MoreThan}
 use Rattle.event_files.specs.EventFile.{pieces_at}
-use Rattle.commands.specs.Admission.{HasBadLine}
+use Rattle.commands.specs.Admission.{AreLawfulEventsOf, HasBadLine}
 use Rattle.commands.specs.Offline.{ReportPrints}
 use Rattle.commands.specs.Output.{EndsWithStatus}
 use Rattle.commands.specs.Text.{labeled_line, refusal_line}
-use Rattle.commands.specs.Replay.{AreLawfulEventsOf, UnlawfulPrints}
+use Rattle.commands.specs.Replay.{UnlawfulPrints}
 use Rattle.commands.specs.declared.exit.Status.{Status}
 use Rattle.commands.specs.declared.exit.Status.TheVariants.{Done, Refused, Error, NotUnderstood}
 use Rattle.reports.specs.Printed.{PrintedRow, with_dependencies}

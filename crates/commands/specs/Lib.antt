@@ -1,4 +1,6 @@
 pub mod Admission
+pub mod AdmittedBlocks
+pub mod Opening
 pub mod Exit
 pub mod Explain
 pub mod Offline

@@ -1,7 +1,6 @@
 -- How `replay` ends (this project's profile).
 use Rattle.std.specs.Prelude.{◌≡◌, ◌⊎◌, ℕ, List, ◌++◌, Option, codes}
 use Rattle.trace_model.specs.Theory.Trace.{Trace}
-use Rattle.trace_model.specs.Theory.Lawful.{IsWellFormed}
 use Rattle.wellformed.specs.declared.whole_lists.FirstUnlawful.{FirstUnlawful}
 use Rattle.wellformed.specs.FirstUnlawful.{IsFirstUnlawful}
 use Rattle.replay.specs.declared.verdict.Verdict.{Verdict}
@@ -11,7 +10,7 @@ use Rattle.replay.specs.Verdict.{IsVerdict}
 use Rattle.event_files.specs.EventFile.{AreWordsOfEvents, pieces_at}
 use Rattle.event_files.specs.WitnessFile.{IsWitnessOf, RefusesWitness}
 use Rattle.event_files.specs.declared.refused.FileRefused.TheVariants as files
-use Rattle.commands.specs.Admission.{HasBadLine, refused_at_line}
+use Rattle.commands.specs.Admission.{AreLawfulEventsOf, HasBadLine, refused_at_line}
 use Rattle.commands.specs.Output.{EndsWithStatus}
 use Rattle.commands.specs.Text.{labeled_line}
 use Rattle.commands.specs.declared.exit.Status.{Status}
@@ -27,10 +26,6 @@ verdict_line (Fails fault place) =
 abbrev pub verdict_status : Verdict → Status
 verdict_status Reaches = Done
 verdict_status (Fails fault place) = Refused
-
--- the events of the file, which form a well-formed trace
-abbrev pub AreLawfulEventsOf : Trace → List ℕ → Type 0
-AreLawfulEventsOf events file = AreWordsOfEvents events file × IsWellFormed events
 
 -- this is the verdict on the witness of the file, against the events
 abbrev pub IsVerdictOn : Trace → List ℕ → Verdict → Type 0

@@ -1,8 +1,8 @@
 //! Event files passed through the admission check.
 ghost use Rattle.std.specs.Prelude.{◌≡◌, ◌++◌, IfErr, IfOk, OnOk};
-ghost use Rattle.commands.specs.Admission.{HasBadLine, IsAdmissionOf, RefusesFile, refused_at_line};
+ghost use Rattle.commands.specs.Admission.{AreLawfulEventsOf, HasBadLine, IsAdmissionOf, RefusesFile, refused_at_line};
 ghost use Rattle.commands.specs.Output.{EndsWithStatus, EndsWithResult, IsJust};
-ghost use Rattle.commands.specs.Replay.{AreLawfulEventsOf, UnlawfulPrints};
+ghost use Rattle.commands.specs.Replay.{UnlawfulPrints};
 ghost use Rattle.commands.specs.declared.exit.Status.TheVariants.{Refused};
 
 use crate::exit::{CommandError, Status, reported, write_text};
@@ -53,7 +53,7 @@ pub fn push_refused_at(text: &mut Vec<u8>, first: FirstUnlawful) -> Result<(), N
 }
 
 /// Writes the line that reports the first unlawful event of a file.
-fn write_unlawful<O: Write>(
+pub(crate) fn write_unlawful<O: Write>(
     alloc: Global,
     first: FirstUnlawful,
     out: &mut O,

@@ -4,7 +4,6 @@ ghost use Rattle.std.specs.List.{All};
 ghost use Rattle.std.specs.Option.{ForSome, option_copied};
 ghost use Rattle.std.specs.Arc.{arc_value};
 ghost use Rattle.trace_model.specs.Theory.Trace.{Trace};
-ghost use Rattle.trace_model.specs.Theory.Lawful.{IsWellFormed};
 ghost use Rattle.trace_model.specs.Theory.Dependencies.{dependencies};
 ghost use Rattle.trace_model.specs.Theory.Refutation.{IsRefutation};
 ghost use Rattle.event_files.specs.Refutations.{refutation_text};
@@ -18,10 +17,10 @@ ghost use Rattle.commands.specs.Explain.{ExplainTells, Explains, ExplainsSome, H
 ghost use Rattle.commands.specs.Exit.{error_status};
 ghost use Rattle.commands.specs.Output.{EndsWithResult, IsCutShort, Writes};
 
-use crate::admission::admit;
 use crate::exit::{CommandError, Status, reported, write_bytes, write_text};
 use crate::files::{NamedFile, read_file};
 use crate::offline_command::write_refused;
+use crate::opening::{analyze, open};
 use crate::refuting::{RefutedRow, Refuter, batches_of};
 use crate::text::{push_last, push_number};
 use dependencies::Dependency;
@@ -35,7 +34,7 @@ use std::hash::RandomState;
 use std::io::{self, BufWriter, Write};
 use std::sync::Arc;
 use std::thread::Threads;
-use trace_model::{Bound, Cycle, Event, NoMemory, Refutation};
+use trace_model::{Bound, Cycle, NoMemory, Refutation};
 
 /// The number of the question that is asked about a file.
 const QUESTION: u32 = 0;
@@ -346,38 +345,20 @@ pub fn cycle_of(alloc: Global, words: &[u8]) -> Result<Option<Cycle>, AllocError
     }
 }
 
-/// Returns the shared analysis of the events.
-fn analyze<R: Threads>(
-    rt: &R,
-    alloc: Global,
-    state: RandomState,
-    events: &[Event],
-    bound: Bound,
-) -> Result<Arc<Analysis, Global>, NoMemory>
-    requires { IsWellFormed events.now }
-    ensures { IfOk result (λ shared.
-        ((arc_value shared).events ≡ events.now) × ((arc_value shared).bound ≡ bound)) }
-{
-    let snapshot = Snapshot::build(rt, alloc, state, events)?;
-    let snapshot = Arc::new(alloc, snapshot)?;
-    Analysis::new(alloc, snapshot, bound)
-}
-
 /// Writes the texts of the chosen cycles, or why there are none or no more.
 fn write_chosen<R: Threads + Sync, O: Write>(
     rt: &R,
     alloc: Global,
     state: RandomState,
-    events: &[Event],
+    snapshot: Snapshot,
     bound: Bound,
     cycle: &Option<Cycle>,
     out: &mut O,
 ) -> Result<Status, CommandError>
-    requires { IsWellFormed events.now }
-    ensures { EndsWithResult (PrintsChosen events.now bound cycle.now) ⊥ result
+    ensures { EndsWithResult (PrintsChosen snapshot bound cycle.now) ⊥ result
         (O.contents out.old) (O.contents out.new) }
 {
-    let analysis = analyze(rt, alloc, state, events, bound)?;
+    let analysis = analyze(alloc, snapshot, bound)?;
     match cycle {
         Some(cycle) => write_one(alloc, state, analysis, cycle, out),
         None => write_all(rt, alloc, state, analysis, out),
@@ -402,12 +383,11 @@ pub fn run_explain<R: Threads + Sync, O: Write, E: Write>(
     ensures { ExplainTells file.entry.bytes.now bound cycle.now result (O.contents out.old)
         (O.contents out.new) }
 {
-    let events = match admit(alloc, state, file, out, err) {
-        Ok(events) => events,
+    let snapshot = match open(rt, alloc, state, file, out, err) {
+        Ok(snapshot) => snapshot,
         Err(status) => return status,
     };
-    let ended = write_chosen(rt, alloc, state, &events, bound, cycle, out);
-    drop(events);
+    let ended = write_chosen(rt, alloc, state, snapshot, bound, cycle, out);
     reported(ended, file.name, err)
 }
 

@@ -8,6 +8,7 @@
 #![tactic(auto)]
 
 mod admission;
+mod admitted_blocks;
 mod check_command;
 mod check_verdicts;
 mod check_words;
@@ -17,6 +18,7 @@ mod explained_rows;
 mod files;
 pub mod laws;
 mod offline_command;
+mod opening;
 mod progress;
 mod progress_line;
 mod refuting;

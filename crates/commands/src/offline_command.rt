@@ -11,10 +11,10 @@ ghost use Rattle.offline_report.specs.Offline.{IsOfflineRefusal, IsReportRows, r
 use crate::admission::push_refused_at;
 use crate::exit::{CommandError, Status, reported, write_bytes, write_text};
 use crate::files::read_file;
+use crate::opening::{Opening, analyze, open_file};
 use crate::progress::Progress;
 use crate::progress_line::ProgressLine;
 use crate::text::push_refusal_line;
-use event_files::read_events;
 use findings::Snapshot;
 use offline_report::{Offline, OfflineRefused, ReportRows, RowPrinter};
 use reports::BareRow;
@@ -22,7 +22,7 @@ use std::alloc::Global;
 use std::hash::RandomState;
 use std::io::{self, BufWriter, IsTerminal, Write};
 use std::thread::Threads;
-use trace_model::{Bound, Event, NoMemory, Refusal};
+use trace_model::{Bound, NoMemory, Refusal};
 
 /// Appends the line that says why there is no report. `NoMemory` has no line.
 fn push_refused(text: &mut Vec<u8>, refused: OfflineRefused) -> Result<(), NoMemory>
@@ -125,24 +125,20 @@ fn report_on<R: Threads + Sync, P: Progress + Sync, O: Write>(
     }
 }
 
-/// Writes the report on the events, or why there is none.
-fn report_events<R: Threads + Sync, P: Progress + Sync, O: Write>(
+/// Writes the report on the events of the snapshot, or why there is none.
+fn report_snapshot<R: Threads + Sync, P: Progress + Sync, O: Write>(
     rt: &R,
     alloc: Global,
-    state: RandomState,
-    events: Vec<Event>,
+    snapshot: Snapshot,
     bound: Bound,
     progress: &P,
     out: &mut O,
 ) -> Result<Status, CommandError>
-    ensures { EndsWithResult (ReportPrints events.items bound) ⊥ result
+    ensures { EndsWithResult (ReportPrints snapshot bound) ⊥ result
         (O.contents out.old) (O.contents out.new) }
 {
-    match Offline::open(rt, alloc, state, events, bound) {
-        Ok(offline) => report_on(rt, alloc, &offline, progress, out),
-        Err(OfflineRefused::NoMemory) => Err(CommandError::Memory),
-        Err(refused) => write_refused(alloc, refused, out),
-    }
+    let offline = Offline::of(alloc, analyze(alloc, snapshot, bound)?);
+    report_on(rt, alloc, &offline, progress, out)
 }
 
 /// Writes the report on the events of the file, or why there is none. The bytes of the file are
@@ -159,9 +155,13 @@ fn report<R: Threads + Sync, P: Progress + Sync, O: Write>(
     ensures { EndsWithResult (OfflinePrints file.items bound) (HasBadLine file.items) result
         (O.contents out.old) (O.contents out.new) }
 {
-    let events = read_events(alloc, &file)?;
-    drop(file);
-    report_events(rt, alloc, state, events, bound, progress, out)
+    match open_file(rt, alloc, state, &file)? {
+        Opening::Opened(snapshot) => {
+            drop(file);
+            report_snapshot(rt, alloc, snapshot, bound, progress, out)
+        }
+        Opening::Refused(first) => write_refused(alloc, OfflineRefused::Unlawful(first), out),
+    }
 }
 
 /// Writes the report on the events in `file` to `out`: question 0, cycles of at most `bound`

@@ -1,7 +1,7 @@
 use Rattle.std.proofs.Common.{inl, inr, sym, subst}
 use Rattle.trace_model.specs.Theory.Trace.{Trace}
 use Rattle.commands.specs.Check.{ChecksAs, IsNotExplained, IsWrongLine}
-use Rattle.commands.specs.Replay.{AreLawfulEventsOf}
+use Rattle.commands.specs.Admission.{AreLawfulEventsOf}
 use Rattle.commands.proofs.Admissions.{admitted_ends, refused_ends}
 use Rattle.commands.proofs.check_command.run_check.Goals as goal
 

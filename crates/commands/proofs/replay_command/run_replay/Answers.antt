@@ -1,6 +1,7 @@
 use Rattle.std.proofs.Common.{inl, inr, sym, subst}
 use Rattle.trace_model.specs.Theory.Trace.{Trace}
-use Rattle.commands.specs.Replay.{AreLawfulEventsOf, HasWrongLine, HasWrongWitness, VerdictPrints}
+use Rattle.commands.specs.Admission.{AreLawfulEventsOf}
+use Rattle.commands.specs.Replay.{HasWrongLine, HasWrongWitness, VerdictPrints}
 use Rattle.commands.proofs.Admissions.{admitted_ends, refused_ends}
 use Rattle.commands.proofs.replay_command.run_replay.Goals as goal
 
