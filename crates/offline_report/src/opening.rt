@@ -41,7 +41,8 @@ impl Model for Offline {
 
 impl Offline {
     /// Tests that each event is lawful after those before it, builds the snapshot with two threads,
-    /// and computes its analysis.
+    /// and computes its analysis. Part of the public API; not called by the program, which builds
+    /// the snapshot while it reads the events.
     ///
     /// # Errors
     /// - `Unlawful` with the first event that is not lawful, if there is one.
