@@ -30,7 +30,8 @@ impl Acquirers {
             let number = number as u32;
             keys.push_reserved(key(table.get(number).lock, number));
         }
-        keys.sort_unstable();
+        // It merges runs that ascend: dependencies often ascend with their locks.
+        keys.sort()?;
         Ok(Acquirers { keys })
     }
 

@@ -25,5 +25,5 @@ returns c =
     let ds = table_dependencies c.args.table.now in
     let end : length ds ≡ c.loop-number.number = omega arith in
     acquirers-known ds _ c.len-number-end.ensures.few
-    (subst (λ (n : ℕ). HasKeys ds n c.sort_unstable.new.self.items) (sym end) (keys-sorted ds _ _ _ c.sort_unstable.ensures.permutation c.loop-number.invariant.has))
-    (IsNonDecreasingBy-from_sort (λ y. y) _ c.sort_unstable.ensures.sorted)
+    (subst (λ (n : ℕ). HasKeys ds n c.sort.new.self.items) (sym end) (keys-sorted ds _ _ _ c.in_ok-sort.ensures.permutation c.loop-number.invariant.has))
+    (IsNonDecreasingBy-from_sort (λ y. y) _ c.in_ok-sort.ensures.sorted)
