@@ -1,81 +1,72 @@
 -- The results collected from all tasks.
-use Rattle.std.proofs.Common.{◌≡◌, ℕ, zero, suc, ◌-◌, ◌^◌, ◌<◌, List, [], ◌∷◌, map, length, get_or, slice_get, Some, Contains, ap, ◌∙◌, Result, Ok, Err, MatchResult, refl, sym, subst, arith}
+use Rattle.std.proofs.Common.{◌≡◌, ℕ, zero, suc, ◌+◌, ◌-◌, ◌^◌, List, [], ◌∷◌, length, slice_get, Some, true, ap, ◌∙◌, Result, Ok, Err, MatchResult, refl, subst, arith}
 use Rattle.std.specs.Global.{Vec}
-use Rattle.std.specs.List.{AllZip, range_with_len}
-use Rattle.std.proofs.lemmas.List.FromFn.{get_or-range_with_len, length-range_with_len}
-use Rattle.std.proofs.lemmas.Option.{none-some, same_Some, slice_get_within}
+use Rattle.std.specs.List.{AllZip}
+use Rattle.std.proofs.lemmas.List.Elements.{All-cons}
+use Rattle.std.proofs.lemmas.Option.{none-some, same_Some}
 use Rattle.trace_model.specs.Theory.Trace.{Trace}
 use Rattle.reports.specs.Printed.{PrintedRow}
+use Rattle.offline_report.specs.Gathering.{AreGathered}
 use Rattle.offline_report.specs.Offline.{AreComputed, AreInPart, AreWhole, IsNotComputed, IsPartOf, IsTaskWithin}
 use Rattle.offline_report.specs.Parts.{PartView}
 use Rattle.offline_report.specs.declared.refused.OfflineRefused.{OfflineRefused}
 
 module _ (s : Trace) (bound limit : ℕ) where
-  abbrev AreParts : List ℕ → List PartView → Type 0
-  AreParts js parts = AllZip (IsTaskWithin s bound limit) js (map Ok parts)
+  -- The parts of the tasks from `k` on.
+  abbrev ArePartsFrom : ℕ → List PartView → Type 0
+  ArePartsFrom k parts = (i : ℕ) (part : PartView) → slice_get parts i ≡ Some part → IsTaskWithin s bound limit (k + i) (Ok part)
+
+  later_parts : (k : ℕ) (p : PartView) (parts : List PartView) → ArePartsFrom k (p ∷ parts) → ArePartsFrom (suc k) parts
+  later_parts k p parts h i part got =
+      let next : k + suc i ≡ suc k + i = omega arith in
+      subst (λ j. IsTaskWithin s bound limit j (Ok part)) next (h (suc i) part got)
 
   -- The rows of the parts.
-  abbrev rows_of_parts : (js : List ℕ) (parts : List PartView) → AreParts js parts → List (List PrintedRow)
-  rows_of_parts [] [] h = []
-  rows_of_parts [] (p ∷ parts) h = absurd h
-  rows_of_parts (j ∷ js) [] h = absurd h
-  rows_of_parts (j ∷ js) (p ∷ parts) h = h.0.0.0 ∷ rows_of_parts js parts h.1
+  abbrev rows_of_parts : (k : ℕ) (parts : List PartView) → ArePartsFrom k parts → List (List PrintedRow)
+  rows_of_parts k [] h = []
+  rows_of_parts k (p ∷ parts) h = (h 0 p refl).0.0 ∷ rows_of_parts (suc k) parts (later_parts k p parts h)
 
-  length_of_parts : (js : List ℕ) (parts : List PartView) (h : AreParts js parts) → length (rows_of_parts js parts h) ≡ length js
-  length_of_parts [] [] h = refl
-  length_of_parts [] (p ∷ parts) h = absurd h
-  length_of_parts (j ∷ js) [] h = absurd h
-  length_of_parts (j ∷ js) (p ∷ parts) h = ap suc (length_of_parts js parts h.1)
+  length_of_parts : (k : ℕ) (parts : List PartView) (h : ArePartsFrom k parts) → length (rows_of_parts k parts h) ≡ length parts
+  length_of_parts k [] h = refl
+  length_of_parts k (p ∷ parts) h = ap suc (length_of_parts (suc k) parts (later_parts k p parts h))
 
-  all_parts : (js : List ℕ) (parts : List PartView) (h : AreParts js parts) → AllZip IsPartOf (rows_of_parts js parts h) parts
-  all_parts [] [] h = tt
-  all_parts [] (p ∷ parts) h = absurd h
-  all_parts (j ∷ js) [] h = absurd h
-  all_parts (j ∷ js) (p ∷ parts) h = (h.0.0.2, all_parts js parts h.1)
+  all_parts : (k : ℕ) (parts : List PartView) (h : ArePartsFrom k parts) → AllZip IsPartOf (rows_of_parts k parts h) parts
+  all_parts k [] h = tt
+  all_parts k (p ∷ parts) h = ((h 0 p refl).0.2, all_parts (suc k) parts (later_parts k p parts h))
 
-  each_part : (js : List ℕ) (parts : List PartView) (h : AreParts js parts) (k j : ℕ) (rows : List PrintedRow) →
-      slice_get (rows_of_parts js parts h) k ≡ Some rows → (part : PartView) × (slice_get parts k ≡ Some part) × AreInPart s bound (get_or js k j) rows part
-  each_part [] [] h k j rows is = absurd (none-some rows is)
-  each_part [] (p ∷ parts) h k j rows is = absurd h
-  each_part (i ∷ js) [] h k j rows is = absurd h
-  each_part (i ∷ js) (p ∷ parts) h zero j rows is = (p, refl, subst (λ rows. AreInPart s bound i rows p) (same_Some h.0.0.0 rows is) h.0.0.1)
-  each_part (i ∷ js) (p ∷ parts) h (suc k) j rows is = each_part js parts h.1 k j rows is
+  each_part : (k : ℕ) (parts : List PartView) (h : ArePartsFrom k parts) (i : ℕ) (rows : List PrintedRow) → slice_get (rows_of_parts k parts h) i ≡ Some rows →
+      (part : PartView) × (slice_get parts i ≡ Some part) × AreInPart s bound (k + i) rows part
+  each_part k [] h i rows is = absurd (none-some rows is)
+  each_part k (p ∷ parts) h zero rows is = (p, refl, subst (λ rows. AreInPart s bound (k + 0) rows p) (same_Some (h 0 p refl).0.0 rows is) (h 0 p refl).0.1)
+  each_part k (p ∷ parts) h (suc i) rows is =
+      let (part, there, are) = each_part (suc k) parts (later_parts k p parts h) i rows is in
+      let next : suc k + i ≡ k + suc i = omega arith in
+      (part, there, subst (λ j. AreInPart s bound j rows part) next are)
 
-  whole_parts : limit ≡ 2 ^ 64 - 1 → (js : List ℕ) (parts : List PartView) → AreParts js parts → AreWhole parts
-  whole_parts e [] [] h k d l = absurd (omega arith)
-  whole_parts e [] (p ∷ parts) h k d l = absurd h
-  whole_parts e (j ∷ js) [] h k d l = absurd h
-  whole_parts e (j ∷ js) (p ∷ parts) h zero d l = h.0.1 e
-  whole_parts e (j ∷ js) (p ∷ parts) h (suc k) d l = whole_parts e js parts h.1 k d (omega (arith, l))
-
-  one_err : (js : List ℕ) (xs : List (Result PartView OfflineRefused)) (e : OfflineRefused) (k : ℕ) → AllZip (IsTaskWithin s bound limit) js xs → k < length xs → get_or xs k (Err e) ≡ Err e → IsNotComputed e
-  one_err [] [] e k h lt is = absurd (omega arith)
-  one_err [] (x ∷ xs) e k h lt is = absurd h
-  one_err (j ∷ js) [] e k h lt is = absurd h
-  one_err (j ∷ js) (x ∷ xs) e zero h lt is = (subst (IsTaskWithin s bound limit j) is h.0).0
-  one_err (j ∷ js) (x ∷ xs) e (suc k) h lt is = one_err js xs e k h.1 (omega arith) is
+  whole_parts : limit ≡ 2 ^ 64 - 1 → (k : ℕ) (parts : List PartView) → ArePartsFrom k parts → AreWhole parts
+  whole_parts e k [] h = λ i d l. absurd (omega (arith, l))
+  whole_parts e k (p ∷ parts) h = All-cons (λ part. part.is_whole ≡ true) p parts ((h 0 p refl).1 e) (whole_parts e (suc k) parts (later_parts k p parts h))
 
   -- The parts of all tasks in their order, or the error of one of them.
-  pub collected : (n : ℕ) (js : List ℕ) (xs : List (Result PartView OfflineRefused)) (v : Result (Vec PartView) OfflineRefused) → js ≡ range_with_len 0 n → AllZip (IsTaskWithin s bound limit) js xs
-      → MatchResult v (λ c. (ys : List PartView) × (xs ≡ map Ok ys) × (c.items ≡ ys)) (λ e. Contains xs (Err e))
+  pub collected : (n : ℕ) (v : Result (Vec PartView) OfflineRefused) → AreGathered (IsTaskWithin s bound limit) n v
       → MatchResult v (λ c. ((tasks : List (List PrintedRow)) × AreComputed s bound n tasks c.items) × (limit ≡ 2 ^ 64 - 1 → AreWhole c.items)) IsNotComputed
-  collected n js xs (Ok c) is zip h =
-      let parts = h.0 in
-      let all : AreParts (range_with_len 0 n) parts = subst (λ l. AllZip (IsTaskWithin s bound limit) l (map Ok parts)) is (subst (AllZip (IsTaskWithin s bound limit) js) h.1 zip) in
-      let tasks = rows_of_parts (range_with_len 0 n) parts all in
-      let total : length tasks ≡ n = length_of_parts (range_with_len 0 n) parts all ∙ length-range_with_len 0 n in (
+  collected n (Ok c) h =
+      let are : ArePartsFrom 0 c.items = λ i part got.
+      let same : i ≡ 0 + i = omega arith in
+      subst (λ j. IsTaskWithin s bound limit j (Ok part)) same (h.1 i part got)
+      in
+      let tasks = rows_of_parts 0 c.items are in (
         (
           tasks,
-          subst (AreComputed s bound n tasks) (sym h.2) (record {
-            total = total;
+          record {
+            total = length_of_parts 0 c.items are ∙ h.0;
             each = λ task rows got.
-                let within : task < n = subst (λ m. task < m) total (slice_get_within tasks task rows got) in
-                let at : get_or (range_with_len 0 n) task 0 ≡ task = omega (arith, get_or-range_with_len 0 n task 0 within) in
-                let (part, there, are) = each_part (range_with_len 0 n) parts all task 0 rows got in
-                (part, there, subst (λ j. AreInPart s bound j rows part) at are);
-            written = all_parts (range_with_len 0 n) parts all;
-          }),
+                let (part, there, is) = each_part 0 c.items are task rows got in
+                let same : 0 + task ≡ task = omega arith in
+                (part, there, subst (λ j. AreInPart s bound j rows part) same is);
+            written = all_parts 0 c.items are;
+          },
         ),
-        λ e. subst AreWhole (sym h.2) (whole_parts e (range_with_len 0 n) parts all),
+        λ e. whole_parts e 0 c.items are,
       )
-  collected n js xs (Err e) is zip h = one_err js xs e h.0 zip h.1 h.2
+  collected n (Err e) h = h.2.0

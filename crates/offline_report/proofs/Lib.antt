@@ -6,3 +6,4 @@ pub mod Pieces
 pub mod PlainRows
 pub mod RowsMore
 pub mod Lesser
+pub mod Gathered

@@ -1,3 +1,4 @@
 pub mod Parts
 pub mod Offline
+pub mod Gathering
 pub mod TaskRows

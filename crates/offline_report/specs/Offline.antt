@@ -1,7 +1,7 @@
 -- The report on a whole list of events.
-use Rattle.std.specs.Prelude.{◌≡◌, ℕ, ◌<◌, ◌≤◌, ◌-◌, ◌^◌, List, ◌++◌, length, map, slice_get, sum_by, count_by, true, Option, Some, MatchOption, Result, Ok, Err, Contains, IfOk, MatchResult}
+use Rattle.std.specs.Prelude.{◌≡◌, ℕ, ◌<◌, ◌≤◌, ◌-◌, ◌^◌, List, ◌++◌, length, map, slice_get, sum_by, count_by, true, Option, Some, MatchOption, Result, IfOk, MatchResult}
 use Rattle.std.specs.Global.{Vec}
-use Rattle.std.specs.List.{All, AllZip, flat_map, range_with_len}
+use Rattle.std.specs.List.{All, AllZip, flat_map}
 use Rattle.trace_model.specs.declared.limits.TheConstants.{MAX_REPORT, MAX_CYCLES}
 use Rattle.trace_model.specs.Theory.Trace.{Trace}
 use Rattle.trace_model.specs.Theory.Lawful.{IsWellFormed}
@@ -120,14 +120,6 @@ pub record AreComputed (s : Trace) (bound n : ℕ) (tasks : List (List PrintedRo
   pub each : (task : ℕ) (rows : List PrintedRow) → slice_get tasks task ≡ Some rows →
       (part : PartView) × (slice_get parts task ≡ Some part) × AreInPart s bound task rows part
   pub written : AllZip IsPartOf tasks parts
-
--- The results of the first `n` tasks in their order, or the error of one of them.
-abbrev pub AreGathered : {Given : Type 0} (may_give : ℕ → Result Given OfflineRefused → Type 0)
-    (n : ℕ) → Result (Vec Given) OfflineRefused → Type 0
-AreGathered {Given} may_give n result =
-    (given : List (Result Given OfflineRefused)) × AllZip may_give (range_with_len 0 n) given
-    × MatchResult result (λ all. (ys : List Given) × (given ≡ map Ok ys) × (all.items ≡ ys))
-    (λ refused. Contains given (Err refused))
 
 -- The parts of all tasks.
 abbrev pub AreTextParts : Trace → ℕ → List PartView → Type 0

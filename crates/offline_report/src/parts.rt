@@ -21,6 +21,8 @@ pub(crate) struct KeptRows {
     pub(crate) longest: u64,
     /// The number of confirmed rows.
     pub(crate) confirmed: u64,
+    /// The number of bytes of their texts, as a hint.
+    pub(crate) confirmed_bytes: u64,
     /// Whether these are all rows of the task.
     pub(crate) is_whole: bool,
 }
@@ -59,8 +61,8 @@ pub struct ReportRows {
     pub first_line: Vec<u8>,
     /// The rows of each task, in the order of the tasks.
     pub tasks: Vec<Vec<BareRow>>,
-    /// The number of bytes of the texts of all rows, as a hint for reserving memory.
-    pub bytes: u64,
+    /// The number of bytes of the texts of the confirmed rows, as a hint for reserving memory.
+    pub confirmed_bytes: u64,
     /// The number of bytes of the longest one, as a hint for reserving memory.
     pub longest: u64,
 }
@@ -125,6 +127,14 @@ impl Part {
         }
     }
 
+    /// Returns the number of bytes of the texts of the confirmed rows, as a hint.
+    fn confirmed_bytes(&self) -> u64 {
+        match &self.known {
+            Known::Kept(kept) => kept.confirmed_bytes,
+            Known::Empty | Known::NotComputed => 0,
+        }
+    }
+
     /// Returns the number of confirmed rows.
     fn confirmed(&self) -> u64
         ensures { result ≡ self.now.confirmed }
@@ -158,6 +168,7 @@ impl Part {
                     bytes: _,
                     longest: _,
                     confirmed: _,
+                    confirmed_bytes: _,
                     is_whole: _,
                 } = Box::into_inner(kept);
                 rows
@@ -224,6 +235,13 @@ fn longest_of(parts: &[Part]) -> u64 {
         .fold(0, |most: u64, part| most.max(part.longest()))
 }
 
+/// Returns the number of bytes of the texts of the confirmed rows of the parts, as a hint.
+fn confirmed_bytes_of(parts: &[Part]) -> u64 {
+    parts.iter().fold(0, |bytes: u64, part| {
+        bytes.saturating_add(part.confirmed_bytes())
+    })
+}
+
 /// Returns the rows of each part, in order.
 ///
 /// # Errors
@@ -263,11 +281,12 @@ pub(crate) fn report_rows(
         return Ok(None);
     }
     let longest = longest_of(&parts);
+    let confirmed_bytes = confirmed_bytes_of(&parts);
     let tasks = rows_of_parts(alloc, parts)?;
     Ok(Some(ReportRows {
         first_line,
         tasks,
-        bytes: MAX_REPORT as u64 - rest,
+        confirmed_bytes,
         longest,
     }))
 }

@@ -69,8 +69,8 @@ impl RowPrinter {
     /// `NoMemory` if an allocation fails.
     pub fn new(alloc: Global, events: u32, rows: &ReportRows) -> Result<RowPrinter, NoMemory> {
         let longest = rows.longest.min(u64::from(u32::MAX)) as u32;
-        // The longest row has each place once, so it alone is no reason for a cache.
-        let others = rows.bytes.saturating_sub(rows.longest);
+        // One witness has each place once, so it alone is no reason for a cache.
+        let others = rows.confirmed_bytes.saturating_sub(rows.longest);
         Ok(RowPrinter {
             alloc,
             members: Vec::with_capacity(alloc, MAX_MEMBERS)?,

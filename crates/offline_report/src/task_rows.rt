@@ -1,5 +1,5 @@
 //! The rows of a task, measured while they are computed.
-ghost use Rattle.std.specs.Prelude.{◌≡◌, ◌-◌, ◌<◌, ◌^◌, List, cond, IfOk, IsTrue};
+ghost use Rattle.std.specs.Prelude.{◌≡◌, ◌-◌, ◌<◌, ◌^◌, ◌++◌, ◌∷◌, [], List, cond, IfOk, IsTrue, OnOk};
 ghost use Rattle.reports.specs.Printed.{PrintedRow};
 ghost use Rattle.reports.specs.Text.{is_confirmed_row};
 ghost use Rattle.offline_report.specs.Offline.{IsPartOf};
@@ -23,6 +23,8 @@ pub(crate) struct TaskRows<'a> {
     /// The number of bytes of the longest one.
     longest: u64,
     pub(crate) confirmed: u64,
+    /// The number of bytes of the texts of the confirmed rows.
+    confirmed_bytes: u64,
     /// The number of bytes of the texts of all tasks.
     written: &'a AtomicU64,
     /// The number of bytes after which no task goes on.
@@ -50,6 +52,7 @@ impl<'a> TaskRows<'a> {
             bytes: 0,
             longest: 0,
             confirmed: 0,
+            confirmed_bytes: 0,
             written,
             limit,
         }
@@ -75,6 +78,7 @@ impl<'a> TaskRows<'a> {
             bytes: self.bytes,
             longest: self.longest,
             confirmed: self.confirmed,
+            confirmed_bytes: self.confirmed_bytes,
             is_whole,
         };
         Part::of(self.alloc, kept)
@@ -102,12 +106,14 @@ impl<'a> Collector<Row> for TaskRows<'a> {
         let Ok(bare) = row.into_bare(self.alloc) else {
             return Err(EarlyEnd::NoMemory);
         };
-        let Ok(()) = self.rows.push(bare) else {
+        let Ok(()) = add_row(self.alloc, &mut self.rows, bare) else {
             return Err(EarlyEnd::NoMemory);
         };
         self.bytes = self.bytes.saturating_add(size);
         self.longest = self.longest.max(size);
         self.confirmed = self.confirmed.saturating_add(certain);
+        let witnessed = size.saturating_mul(certain);
+        self.confirmed_bytes = self.confirmed_bytes.saturating_add(witnessed);
         if !self.is_over(size) {
             return Ok(());
         }
@@ -123,4 +129,18 @@ fn confirmed_of(row: &Row) -> u64
     ensures { result ≡ cond (is_confirmed_row row.now) 1 0 }
 {
     u64::from(row.found.is_some())
+}
+
+/// Adds a row. Most tasks with rows have one, so the first row gets memory of its size.
+///
+/// # Errors
+/// `NoMemory` if an allocation fails.
+fn add_row(alloc: Global, rows: &mut Vec<BareRow>, row: BareRow) -> Result<(), NoMemory>
+    ensures { OnOk result (rows.new.items ≡ rows.old.items ++ row ∷ []) }
+{
+    if rows.is_empty() {
+        *rows = Vec::with_capacity(alloc, 1)?;
+    }
+    rows.push(row)?;
+    Ok(())
 }
