@@ -8,7 +8,7 @@ ghost use Rattle.commands.specs.Output.{EndsWithResult};
 
 use crate::admission::admit;
 use crate::check_words::{push_head, push_rows};
-use crate::exit::{CommandError, Status, reported, write_text};
+use crate::exit::{CommandError, OUTPUT, Status, reported, write_text};
 use crate::files::{NamedFile, read_file};
 use dependencies::DepTable;
 use event_files::{ExplainedFile, read_explained};
@@ -140,7 +140,7 @@ pub fn check_files<T: Threads + Sync>(
         bytes: &cycles,
     };
     let state = RandomState::new(rt)?;
-    let mut out = BufWriter::new(rt.alloc(), rt.stdout())?;
+    let mut out = BufWriter::with_capacity(rt.alloc(), OUTPUT, rt.stdout())?;
     let mut err = rt.stderr();
     Ok(run_check(threads, rt.alloc(), state, trace, file, &mut out, &mut err))
 }

@@ -9,6 +9,9 @@ use event_files::{ExplainedRefused, FileRefused};
 use std::io::{self, Write};
 use trace_model::NoMemory;
 
+/// How many bytes of a report are written at once.
+pub(crate) const OUTPUT: usize = 65_536;
+
 /// How a command ended.
 #[derive(Clone, Copy, Debug, PartialEq, Eq)]
 pub enum Status {

@@ -17,7 +17,7 @@ ghost use Rattle.commands.specs.Explain.{ExplainTells, Explains, ExplainsSome, H
 ghost use Rattle.commands.specs.Exit.{error_status};
 ghost use Rattle.commands.specs.Output.{EndsWithResult, IsCutShort, Writes};
 
-use crate::exit::{CommandError, Status, reported, write_bytes, write_text};
+use crate::exit::{CommandError, OUTPUT, Status, reported, write_bytes, write_text};
 use crate::files::{NamedFile, read_file};
 use crate::offline_command::write_refused;
 use crate::opening::{analyze, open};
@@ -443,7 +443,7 @@ pub fn explain_named<T: Threads + Sync>(
     };
     let alloc = rt.alloc();
     let state = RandomState::new(rt)?;
-    let mut out = BufWriter::new(alloc, rt.stdout())?;
+    let mut out = BufWriter::with_capacity(alloc, OUTPUT, rt.stdout())?;
     let mut err = rt.stderr();
     Ok(run_explain(
         threads, alloc, state, file, bound, &cycle, &mut out, &mut err,

@@ -9,7 +9,7 @@ ghost use Rattle.commands.specs.Output.{AppendsPart, EndsWithResult, IsJust};
 ghost use Rattle.offline_report.specs.Offline.{IsOfflineRefusal, IsReportRows, rows_text, tasks_rows_text};
 
 use crate::admission::push_refused_at;
-use crate::exit::{CommandError, Status, reported, write_bytes, write_text};
+use crate::exit::{CommandError, OUTPUT, Status, reported, write_bytes, write_text};
 use crate::files::read_file;
 use crate::opening::{Opening, analyze, open_file};
 use crate::progress::Progress;
@@ -202,7 +202,7 @@ fn offline_bytes<T: Threads + Sync>(
         unreachable!()
     };
     let state = RandomState::new(rt)?;
-    let mut out = BufWriter::new(rt.alloc(), rt.stdout())?;
+    let mut out = BufWriter::with_capacity(rt.alloc(), OUTPUT, rt.stdout())?;
     let mut err = rt.stderr();
     Ok(run_offline(
         threads,
