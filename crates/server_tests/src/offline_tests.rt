@@ -44,11 +44,11 @@ cycle 1 2101 potential
 /// The number of tasks, one for each dependency.
 const TASKS: u64 = 4_200;
 
-// Enough for a thread that must compute a thousand tasks before a late one.
+// Enough for a thread that must compute fewer than a hundred tasks before a late one.
 const YIELDS: u32 = 1_000_000;
 
-/// The least late task.
-const LATE: u32 = 2_048;
+/// The least late task: more tasks than a thread takes at once.
+const LATE: u32 = 64;
 
 /// A hold that blocks task 0 until a late task is held, and each late task until task 0 is held. It
 /// adds up its calls, their questions, and their tasks.
