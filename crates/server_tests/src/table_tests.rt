@@ -85,24 +85,31 @@ fn dependencies_of_traces(rt: HostRuntime) -> Result<(), Fail> {
     Ok(())
 }
 
-/// Asserts that these are the 200 places `first`, `first + 8` and so on.
-fn are_every_eighth(rt: &impl Abort, places: PlacesOf<'_>, first: u32) {
+/// Asserts that these are the 200 places `first`, `first + 8` and so on, read one by one and
+/// copied.
+fn are_every_eighth(rt: &impl Abort, places: PlacesOf<'_>, first: u32, copy: &mut Vec<Place>) {
     assert_eq!(rt; places.len(), 200);
+    assert_eq!(rt; places.copy_to(copy).is_ok(), true);
+    assert_eq!(rt; copy.len(), 200);
     for index in 0..200u32 {
+        let wanted = u64::from(first) + 8 * u64::from(index);
         let place = places.get(index as usize).get();
+        assert_eq!(rt; u64::from(place), wanted, "place {index}");
         assert_eq!(rt;
-            u64::from(place),
-            u64::from(first) + 8 * u64::from(index),
-            "place {index}"
+            u64::from(copy[index as usize].get()),
+            wanted,
+            "copied place {index}"
         );
     }
 }
 
 /// Asserts that both dependencies are at 200 places.
-fn repeats(rt: &impl Abort, table: &DepTable) {
+fn repeats(rt: &impl Abort, alloc: Global, table: &DepTable) {
     assert_eq!(rt; table.len(), 2);
-    are_every_eighth(rt, table.places(0), 3);
-    are_every_eighth(rt, table.places(1), 7);
+    let mut copy = Vec::new(alloc);
+    are_every_eighth(rt, table.places(0), 3, &mut copy);
+    are_every_eighth(rt, table.places(1), 7, &mut copy);
+    drop(copy);
 }
 
 #[test]
@@ -110,7 +117,7 @@ fn places_of_two_hundred_repetitions(rt: HostRuntime) -> Result<(), Fail> {
     let text = rounds(rt.alloc(), 200)?;
     let table = table_of_text(&rt, &text).ok_or("a table")?;
     drop(text);
-    repeats(&rt, &table);
+    repeats(&rt, rt.alloc(), &table);
     drop(table);
     Ok(())
 }

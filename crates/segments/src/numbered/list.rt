@@ -3,7 +3,7 @@
 use crate::links::{count_passing, entry_at};
 use crate::numbered::number_list::NumberList;
 use std::marker::Model;
-use trace_model::Place;
+use trace_model::{NoMemory, Place};
 
 /// The places of a number, ascending, read by index. A read follows links back from the last place.
 #[derive(Drop)]
@@ -24,7 +24,7 @@ impl<'a> Model for PlacesOf<'a> {
 }
 
 impl<'a> PlacesOf<'a> {
-    ghost use Rattle.std.specs.Prelude.{◌≡◌, ◌<◌, Some, length, nat_eq, slice_get};
+    ghost use Rattle.std.specs.Prelude.{◌≡◌, ◌<◌, Some, length, nat_eq, slice_get, OnOk};
     ghost use Rattle.std.specs.List.Sorted.{IsStrictlyIncreasing};
 
     /// Returns the number of places.
@@ -52,5 +52,26 @@ impl<'a> PlacesOf<'a> {
             unreachable!()
         };
         note.place
+    }
+
+    /// Sets `places` to the places. Follows one link for each of them.
+    ///
+    /// # Errors
+    ///
+    /// `NoMemory` if an allocation fails.
+    pub fn copy_to(&self, places: &mut Vec<Place>) -> Result<(), NoMemory>
+        ensures { OnOk result (places.new.items ≡ self.now) }
+    {
+        places.clear();
+        places.resize(self.len(), Place::new(0))?;
+        let mut at = self.last;
+        while let Some(index) = at {
+            let Some(note) = self.list.notes.get(index as usize) else {
+                unreachable!()
+            };
+            places[note.link.number as usize] = note.place;
+            at = note.link.earlier.get();
+        }
+        Ok(())
     }
 }
