@@ -37,7 +37,8 @@ fn entry_of(key: u64) -> usize {
 }
 
 /// Adds an entry without a clock for each place of the dependency `number`, and its key to `order`.
-/// Returns the timeline of these entries, or `None` if there are too many.
+/// Returns the timeline of these entries, or `None` if there are too many. Sets `places` to the
+/// places.
 ///
 /// # Errors
 /// `NoMemory` if an allocation fails.
@@ -46,6 +47,7 @@ fn add_places(
     threads: &SlotTable,
     table: &DepTable,
     number: u32,
+    places: &mut Vec<Place>,
     entries: &mut Vec<Timestamp>,
     order: &mut Vec<u64>,
 ) -> Result<Option<Timeline>, NoMemory>
@@ -55,14 +57,15 @@ fn add_places(
     ensures { IfOk result (AddsTimeline index.now.events (slots_of threads.now) number
         entries.old.items entries.new.items) }
 {
-    let places = table.places(number);
+    let list = table.places(number);
+    let count = list.len();
+    list.copy_to(places)?;
     let first = entries.len();
-    let count = places.len();
     if first > MAX_PLACES || count > MAX_PLACES {
         return Ok(None);
     }
     for entry in 0..count {
-        let place = places.get(entry);
+        let place = places[entry];
         let prefix = prefix_before(index, threads, place);
         order.push(key(place, (first + entry) as u32))?;
         entries.push(Timestamp {
@@ -86,6 +89,7 @@ fn add_wanted(
     table: &DepTable,
     wanted: &[bool],
     number: u32,
+    places: &mut Vec<Place>,
     entries: &mut Vec<Timestamp>,
     order: &mut Vec<u64>,
 ) -> Result<Option<Timeline>, NoMemory>
@@ -96,7 +100,7 @@ fn add_wanted(
         entries.old.items entries.new.items) }
 {
     match wanted.get(number as usize) {
-        Some(true) => add_places(index, threads, table, number, entries, order),
+        Some(true) => add_places(index, threads, table, number, places, entries, order),
         _ => Ok(None),
     }
 }
@@ -119,14 +123,25 @@ fn timelines_of(
     requires one_trace { NumbersWholeTrace table.now index.now.events }
     ensures { IfOk result (AreTimelines index.now.events (slots_of threads.now)) }
 {
+    let mut places = Vec::new(alloc);
     let mut entries = Vec::new(alloc);
     let mut timelines = Vec::with_capacity(alloc, table.len())?;
     for number in 0..table.len() {
         let number = number as u32;
-        let timeline = add_wanted(index, threads, table, wanted, number, &mut entries, order)?;
+        let timeline = add_wanted(
+            index,
+            threads,
+            table,
+            wanted,
+            number,
+            &mut places,
+            &mut entries,
+            order,
+        )?;
         timelines.push_reserved(timeline);
     }
-    order.sort_unstable();
+    // It merges the runs, one for each dependency.
+    order.sort()?;
     Ok(Timestamps {
         threads: threads.count,
         timelines,
