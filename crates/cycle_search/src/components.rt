@@ -57,7 +57,7 @@ impl Components {
     /// Computes the components of the dependencies of `table`. `graph` must contain their edges; it
     /// may contain edges of later dependencies, which are ignored. Takes time in proportion to the
     /// number of locks that the dependencies hold, and to sort the dependencies. Keeps at most 33
-    /// bytes for each dependency. Hashes the lock of each dependency once.
+    /// bytes for each dependency. Hashes the lock of each dependency at most once.
     ///
     /// # Errors
     /// `NoMemory` if an allocation fails.

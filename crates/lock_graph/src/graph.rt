@@ -128,11 +128,28 @@ impl LockGraph {
         self.lists.len()
     }
 
+    /// Returns whether `lock` is at `position`.
+    fn is_at(&self, position: u32, lock: u32) -> bool {
+        match self.lists.get_index(position as usize) {
+            Some((key, _)) => *key == lock,
+            None => false,
+        }
+    }
+
     /// Returns the position of `lock`, a dense number: below the number of locks that dependencies
-    /// hold, or 4,294,967,295 if no dependency holds it. Does not allocate.
+    /// hold, or 4,294,967,295 if no dependency holds it. Hashes it only if it is not at the
+    /// position that it has if dependencies held the locks in the order of their numbers, from 0 or
+    /// from 1. Does not allocate.
     pub fn position(&self, lock: u32) -> u32
         ensures { result ≡ 4294967295 → holders self.now lock ≡ [] }
     {
+        let from_one = lock.saturating_sub(1);
+        if self.is_at(from_one, lock) {
+            return from_one;
+        }
+        if lock < u32::MAX && self.is_at(lock, lock) {
+            return lock;
+        }
         match self.lists.get_index_of(&lock) {
             Some(position) if position < u32::MAX as usize => position as u32,
             // There are fewer locks, so this is not reached. `successors_at` tests positions.
