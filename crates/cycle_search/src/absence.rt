@@ -1,6 +1,6 @@
-//! A short search by which most traces without a cycle are known.
+//! A short search by which most traces without a cycle, or with few, are known.
 
-ghost use Rattle.std.specs.Prelude.{◌<◌, ℕ, List, length, IsTrue};
+ghost use Rattle.std.specs.Prelude.{◌≡◌, ◌<◌, ℕ, List, length, IsTrue};
 ghost use Rattle.trace_model.specs.Theory.Cycles.{IsCycle};
 ghost use Rattle.cycle_search.specs.CycleSearch.{CycleFrom};
 
@@ -32,6 +32,25 @@ pub fn has_no_cycle(
     true
 }
 
+/// Returns whether the search finds at most `most` cycles with at most `bound` members before it has
+/// visited `visits` members. An estimate of the work for the cycles: no result depends on it.
+pub fn has_few_cycles(
+    alloc: Global,
+    search_input: &SearchInput<'_>,
+    bound: Bound,
+    most: usize,
+    visits: u64,
+) -> bool {
+    let mut kept = Kept::new(alloc, most);
+    let mut pace = Visits { left: visits };
+    for root in 0..search_input.table.len() {
+        if !keep_cycles(search_input, root as u32, bound, &mut kept, &mut pace) {
+            return false;
+        }
+    }
+    true
+}
+
 /// Returns `true` only if no cycle with at most `bound` members begins with `root`.
 fn begins_no_cycle(
     alloc: Global,
@@ -43,6 +62,25 @@ fn begins_no_cycle(
     requires { root < length search_input.now }
     ensures { IsTrue result → (numbers : List ℕ) →
         CycleFrom search_input.now bound root numbers → ⊥ }
+{
+    let mut none = Kept::new(alloc, 0);
+    keep_cycles(search_input, root, bound, &mut none, pace)
+}
+
+/// Keeps the cycles with at most `bound` members that begin with `root`. Returns `false` if they are
+/// too many, an allocation fails, or the search is paused.
+fn keep_cycles(
+    search_input: &SearchInput<'_>,
+    root: u32,
+    bound: Bound,
+    kept: &mut Kept,
+    pace: &mut Visits,
+) -> bool
+    requires { root < length search_input.now }
+    ensures most { IsTrue result → kept.new.most ≡ kept.old.most }
+    ensures each { IsTrue result → (numbers : List ℕ) →
+        CycleFrom search_input.now bound root numbers →
+        length kept.old.cycles.items < length kept.new.cycles.items }
 {
     let members = most_members(search_input, root, bound);
     if members < 2 {
@@ -57,8 +95,7 @@ fn begins_no_cycle(
         successors: closing_visits_after(search_input, root, members),
         filter: filter_of(search_input, root),
     };
-    let mut none = Kept::new(alloc, 0);
-    match extend(&search, &mut path, root, &mut none, pace) {
+    match extend(&search, &mut path, root, kept, pace) {
         Ok(()) => true,
         Err(_) => false,
     }

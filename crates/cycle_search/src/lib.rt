@@ -29,7 +29,7 @@ mod search;
 mod search_input;
 mod tarjan;
 
-pub use absence::has_no_cycle;
+pub use absence::{has_few_cycles, has_no_cycle};
 pub use collector::Collector;
 pub use components::Components;
 pub use paused::{MAX_VISITS, PausedSearch, Searched};

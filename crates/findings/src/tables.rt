@@ -16,7 +16,7 @@ ghost use Rattle.findings.specs.TaskSearches.{IsTaskSearch, AreSearchedCycles};
 use crate::task_search::TaskSearch;
 use cycle_search::{
     Collector, Components, Cycle, PausedSearch, SearchInput, SearchRefused, Searched,
-    collect_cycles, cycles_from, has_no_cycle,
+    collect_cycles, cycles_from, has_few_cycles, has_no_cycle,
 };
 use snapshots::Snapshot;
 use sp_closure::{Requirements, Steps, Timestamps};
@@ -24,10 +24,6 @@ use std::alloc::Global;
 use std::marker::Brand;
 use std::sync::ledger::{Blank, Ledger};
 use trace_model::{Bound, NoMemory};
-
-/// The least number of cyclic dependencies for which timestamps are computed. Fewer ones have too
-/// few cycles for the timestamps to pay.
-const LEAST_CYCLIC: usize = 16;
 
 /// The components, and if there may be cycles the requirements and the timestamps.
 #[derive(Drop)]
@@ -50,7 +46,9 @@ impl Tables {
         let components = components_of(alloc, snapshot)?;
         let requirements = requirements_of(alloc, snapshot, &components, bound)?;
         let timestamps = match &requirements {
-            Some(requirements) => timestamps_of(alloc, snapshot, &components, requirements)?,
+            Some(requirements) => {
+                timestamps_of(alloc, snapshot, &components, requirements, bound)?
+            }
             None => None,
         };
         Ok(Tables {
@@ -221,8 +219,9 @@ fn requirements_of(
     Ok(Some(requirements))
 }
 
-/// Returns the timestamps of the cyclic dependencies, if there are enough of these and the
-/// timestamps are not costly.
+/// Returns the timestamps of the cyclic dependencies, if there are enough cycles and the timestamps
+/// are not costly. They take at most the time of one closure for each thread, and save at most that
+/// of one for each cycle.
 ///
 /// # Errors
 /// `NoMemory` if an allocation fails.
@@ -231,15 +230,24 @@ fn timestamps_of(
     snapshot: &Snapshot,
     components: &Components,
     requirements: &Requirements,
+    bound: Bound,
 ) -> Result<Option<Timestamps>, NoMemory>
-    requires { AreRequirements snapshot.now requirements.now }
+    requires components { AreComponents (dependencies snapshot.now) components.now }
+    requires requirements { AreRequirements snapshot.now requirements.now }
     ensures { IfOk result (λ made. ForSome made (AreTimestamps snapshot.now)) }
 {
-    let cyclic = components.cyclic();
-    if cyclic.iter().filter(|it| **it).count() < LEAST_CYCLIC {
+    let search_input = SearchInput::new(snapshot.table(), snapshot.graph(), components);
+    let threads = requirements.threads.count as usize;
+    if has_few_cycles(alloc, &search_input, bound, threads, snapshot.len() as u64) {
         return Ok(None);
     }
-    make_timestamps::<Brand>(alloc, snapshot, requirements, cyclic, Blank::new(1))
+    make_timestamps::<Brand>(
+        alloc,
+        snapshot,
+        requirements,
+        components.cyclic(),
+        Blank::new(1),
+    )
 }
 
 /// Computes the timestamps, counted by a new count of steps.

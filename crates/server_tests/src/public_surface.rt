@@ -7,7 +7,9 @@ use crate::fixtures::{LIMIT, OPPOSITE_EVENTS, OPPOSITE_ORDERS, REPORT};
 use crate::table_tests::table_of_text;
 use crate::traces::gate_of;
 use board::{BoardState, BoardWriter, HistoryId, new_board};
-use cycle_search::{Components, SearchInput, SearchRefused, cycles_from, has_no_cycle};
+use cycle_search::{
+    Components, SearchInput, SearchRefused, cycles_from, has_few_cycles, has_no_cycle,
+};
 use dependencies::{DepTable, Dependency};
 use desk::{Desk, Locked};
 use event_frames::{FrameReader, encode_reply};
@@ -236,14 +238,21 @@ const GATED_ORDERS: &str = "0f1 0f2
 2a30 2a20 2a10 2r10 2r20 2r30
 ";
 
-/// Returns whether a search that visits at most `visits` members finds that there is no cycle.
-fn finds_no_cycle(alloc: Global, snapshot: &Snapshot, visits: u64) -> Result<bool, NoMemory> {
+/// Returns whether a search that visits at most `visits` members finds that there is no cycle, and
+/// whether it finds at most `most`.
+fn short_searches(
+    alloc: Global,
+    snapshot: &Snapshot,
+    most: usize,
+    visits: u64,
+) -> Result<(bool, bool), NoMemory> {
     let (table, graph) = (snapshot.table(), snapshot.graph());
     let components = Components::new(alloc, table, graph)?;
     let search_input = SearchInput::new(table, graph, &components);
     let finds_none = has_no_cycle(alloc, &search_input, Bound::least(), visits);
+    let finds_few = has_few_cycles(alloc, &search_input, Bound::least(), most, visits);
     drop(components);
-    Ok(finds_none)
+    Ok((finds_none, finds_few))
 }
 
 /// Only the dependency of lock 20 in the first thread has a member to visit: that of lock 10 in the
@@ -254,10 +263,28 @@ fn no_cycle_of_gated_orders(rt: HostRuntime) -> Result<(), Fail> {
     let snapshot = build_snapshot(&rt, rt.alloc(), RandomState::new(&rt)?, &gate);
     drop(gate);
     let snapshot = snapshot?;
-    let without_visits = finds_no_cycle(rt.alloc(), &snapshot, 0);
-    let with_one = finds_no_cycle(rt.alloc(), &snapshot, 1);
+    let without_visits = short_searches(rt.alloc(), &snapshot, 0, 0);
+    let with_one = short_searches(rt.alloc(), &snapshot, 0, 1);
     drop(snapshot);
-    assert_eq!(rt; (without_visits?, with_one?), (false, true));
+    assert_eq!(rt; without_visits?, (false, false), "no visit");
+    assert_eq!(rt; with_one?, (true, true), "one visit");
+    Ok(())
+}
+
+/// Opposite orders have one cycle. A search for it visits one member.
+#[test]
+fn few_cycles_of_opposite_orders(rt: HostRuntime) -> Result<(), Fail> {
+    let gate = gate_of(&rt, OPPOSITE_ORDERS.as_bytes()).ok_or("a gate")?;
+    let snapshot = build_snapshot(&rt, rt.alloc(), RandomState::new(&rt)?, &gate);
+    drop(gate);
+    let snapshot = snapshot?;
+    let none_allowed = short_searches(rt.alloc(), &snapshot, 0, 1);
+    let without_visits = short_searches(rt.alloc(), &snapshot, 1, 0);
+    let one_allowed = short_searches(rt.alloc(), &snapshot, 1, 1);
+    drop(snapshot);
+    assert_eq!(rt; none_allowed?, (false, false), "at most 0 cycles");
+    assert_eq!(rt; without_visits?, (false, false), "no visit");
+    assert_eq!(rt; one_allowed?, (false, true), "at most 1 cycle");
     Ok(())
 }
 

@@ -1,24 +1,8 @@
-use Rattle.std.proofs.Common.{◌≡◌, ◌<◌, ◌∙◌, [], ◌∷◌, ◌++◌, length, refl, ap, subst, arith}
-use Rattle.cycle_search.specs.Collecting.{TakesSoFar}
-use Rattle.cycle_search.specs.CycleSearch.{CycleOver}
-use Rattle.cycle_search.specs.Keeping.{keeps}
-use Rattle.cycle_search.proofs.Paths.{root-alone}
-use Rattle.cycle_search.proofs.ComponentLemmas.{another-bound}
-use Rattle.cycle_search.proofs.Keeping.{kept-more}
-use Rattle.cycle_search.proofs.Turns.{all-from_root}
+use Rattle.std.proofs.Common.{ap, length, arith}
 use Rattle.cycle_search.proofs.absence.begins_no_cycle.Goals as goal
 
-pub returns-in-Ok : goal.returns-in-Ok
-returns-in-Ok c t numbers cycle =
-    let ds = c.args.search_input.now in
-    let root = c.args.root in
-    let members = c.most_members-members.result in
-    let old = c.new-none.result in
-    let new = c.extend.new.collector in
-    let one = root-alone root _ _ c.new-path.ensures c.push.ensures.items in
-    let over = CycleOver ds members (root ∷ []) (λ x. root < x) in
-    let (most, (more, e, all)) = kept-more over old new (subst (λ p. TakesSoFar keeps (CycleOver ds members p (λ x. root < x)) old new) one c.in-Ok.ensures.all) in
-    let (found, same, are) = all-from_root ds members root [] more (more, refl, all) in
-    let (k, l, at) = are.complete numbers (another-bound ds c.args.bound members numbers cycle.0 (c.most_members-members.ensures.all numbers cycle), cycle.1) in
-    let only : new.cycles.items ≡ more = e ∙ ap (λ xs. xs ++ more) c.new-none.ensures.cycles in
-    omega (arith, l, new.within, most, c.new-none.ensures.most, ap length only, ap length same)
+pub returns : goal.returns
+returns c t numbers cycle =
+    let more = c.keep_cycles.ensures.each t numbers cycle in
+    let most = c.keep_cycles.ensures.most t in
+    omega (arith, more, most, c.new-none.ensures.most, c.keep_cycles.new.kept.within)
