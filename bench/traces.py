@@ -13,6 +13,7 @@ usage: bench/traces.py KIND NUMBER ..
   ring LOCKS           eight threads acquire the pairs of LOCKS locks in a ring that are one to four apart
   couples THREADS WRITES    each two of THREADS threads acquire two locks of their own in opposite orders; then thread 0 writes WRITES times
   variables EVENTS     ten threads read and write 500 variables, and acquire two of 30 locks that are at most three apart
+  pools ROUNDS         eight pairs of threads with two locks and two variables each, ROUNDS times 64 events of each pair
   spread SECTIONS      eight threads acquire three of 20,000 locks with numbers of 32 bits, mostly in one order
   small SEED EVENTS    a random lawful trace of four threads and four locks
 
@@ -135,6 +136,17 @@ def variables(events, seed=1):
     return words
 
 
+def pools(rounds):
+    """The pairs take turns. The threads of a pair acquire its locks in opposite orders, and read what the other wrote."""
+    words = forks(16)
+    for _ in range(rounds):
+        for thread in range(1, 17, 2):
+            for one, other in [(thread, thread + 1), (thread + 1, thread)] * 4:
+                words += [f"{one}a{one}", f"{one}a{other}", f"{one}w{one}", f"{one}d{one}"]
+                words += [f"{one}r{other}", f"{one}r{one}", f"{one}w{one}", f"{one}d{other}"]
+    return words
+
+
 def spread(sections, seed=1):
     """Most sections have dependencies that no other section has. One in 32 acquires its locks in random order."""
     chooser = random.Random(seed)
@@ -194,6 +206,7 @@ KINDS = {
     "ring": ring,
     "couples": couples,
     "variables": variables,
+    "pools": pools,
     "spread": spread,
     "small": small,
 }
