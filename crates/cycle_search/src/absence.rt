@@ -1,4 +1,4 @@
-//! A short search by which most traces without a cycle, or with few, are known.
+//! Short searches, which tell of most traces whether they have no cycle, or few.
 
 ghost use Rattle.std.specs.Prelude.{◌≡◌, ◌<◌, ℕ, List, length, IsTrue};
 ghost use Rattle.trace_model.specs.Theory.Cycles.{IsCycle};
@@ -32,8 +32,9 @@ pub fn has_no_cycle(
     true
 }
 
-/// Returns whether the search finds at most `most` cycles with at most `bound` members before it has
-/// visited `visits` members. An estimate of the work for the cycles: no result depends on it.
+/// Returns whether a search finds that there are at most `most` cycles with at most `bound` members.
+/// `false` if it visits `visits` members without an end, or an allocation fails. An estimate of the
+/// work for the cycles: no result may depend on it.
 pub fn has_few_cycles(
     alloc: Global,
     search_input: &SearchInput<'_>,

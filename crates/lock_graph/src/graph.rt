@@ -137,9 +137,9 @@ impl LockGraph {
     }
 
     /// Returns the position of `lock`, a dense number: below the number of locks that dependencies
-    /// hold, or 4,294,967,295 if no dependency holds it. Hashes it only if it is not at the
-    /// position that it has if dependencies held the locks in the order of their numbers, from 0 or
-    /// from 1. Does not allocate.
+    /// hold, or 4,294,967,295 if no dependency holds it. First tries the two positions that it has
+    /// if dependencies hold the locks in the order of their numbers, from 1 or from 0, and hashes
+    /// it only if it is at neither. Does not allocate.
     pub fn position(&self, lock: u32) -> u32
         ensures { result ≡ 4294967295 → holders self.now lock ≡ [] }
     {
