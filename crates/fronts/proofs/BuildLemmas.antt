@@ -1,5 +1,5 @@
 -- The tables while they are built, place by place.
-use Rattle.std.proofs.Common.{◌≡◌, ℕ, zero, suc, ◌+◌, ◌<◌, ◌≤◌, ◌⊎◌, inl, inr, Vec, List, [], ◌∷◌, ◌++◌, length, slice_get, slice_set, Option, Some, None, refl, sym, ap, subst, ◌∙◌, arith, append-nil}
+use Rattle.std.proofs.Common.{◌≡◌, ℕ, zero, suc, ◌+◌, ◌<◌, ◌≤◌, ◌⊎◌, inl, inr, Vec, List, [], ◌∷◌, ◌++◌, length, slice_get, slice_set, Option, Some, None, refl, sym, ap, subst, ◌∙◌, arith}
 use Rattle.std.specs.Global.{Global}
 use Rattle.std.specs.List.{Contains}
 use Rattle.std.specs.Arc.{arc_value}
@@ -13,6 +13,7 @@ use Rattle.trace_model.proofs.Lists.{at_index, length-push, get-push, get-set_sa
 use Rattle.trace_model.specs.Theory.Closure.{ascending_places}
 use Rattle.trace_index.specs.Numbers.{of_thread, number_at}
 use Rattle.fronts.specs.declared.requirements.ThreadPrefix.{ThreadPrefix}
+use Rattle.fronts.specs.declared.requirements.Requirement.{Requirement}
 use Rattle.fronts.specs.declared.requirements.Requirement.TheVariants.{Reach, Begin}
 use Rattle.fronts.specs.declared.requirements.Item.{Item}
 use Rattle.fronts.specs.declared.requirements.Requirements.{Requirements}
@@ -20,7 +21,7 @@ use Rattle.fronts.specs.Slots.{place_slot, slots_of, AreSlots, AreSlotPlaces, Ha
 use Rattle.fronts.specs.Firsts.{thread_slot_at, lock_slot_at, threads_below, locks_below}
 use Rattle.fronts.specs.Tables.{AreSlotPositions}
 use Rattle.fronts.specs.Requirements.{Needs, AreLocks, AreItems, AreRequirements, item, item_at}
-use Rattle.fronts.specs.Pushing.{SlottedTrace, trace_with_slots, IsRequirement, IsForkLater, IsIncluded, AreUpTo, IsBegun, IsBare, AddsRequirements, AreBuilt, AreAllBuilt}
+use Rattle.fronts.specs.Pushing.{SlottedTrace, trace_with_slots, IsRequirement, IsForkLater, IsIncluded, AreUpTo, IsBegun, IsBegin, NeedsNone, requirement_items, AddsRequirements, AreBuilt, AreAllBuilt}
 use Rattle.fronts.proofs.SlotLemmas.{before_position, earlier_position, has_upto}
 use Rattle.fronts.proofs.ThreadLemmas.{place_below}
 use Rattle.fronts.proofs.FirstLemmas.{thread_slots, lock_slots, thread_slot_below}
@@ -160,27 +161,11 @@ all_pushed v count p a lists old new k slot at adds all b zs h = elim (cases_lt 
         subst (λ z. AreBuilt v (suc p) b z.items) is
         (subst (λ z. AreBuilt v (suc p) z new.items) e (built_pushed v count p a old.items new.items k slot (all a old at) adds))
 
--- A place that needs nothing more adds no items.
-pub bare_added : (v : SlottedTrace) (q n : ℕ) (xs : List Item) → number_at v.trace q ≡ Some n → IsBare v q → AddsRequirements v q xs xs
-bare_added v q n xs num bare =
-    requirements_from v q n None None None None xs xs xs xs xs num bare.start bare.first bare.last bare.begin (no_needs v q n xs) (no_needs v q n xs) (no_needs v q n xs) (sym (append-nil xs))
-
--- One more place, which needs nothing more.
-pub all_bare : (v : SlottedTrace) (count p a n : ℕ) (lists : List (Vec Item Global)) → AreSlots v.trace v.slots count → v.slots p ≡ Some a → number_at v.trace p ≡ Some n →
-    IsBare v p → AreAllBuilt v p lists → AreAllBuilt v (suc p) lists
-all_bare v count p a n lists k slot num bare all b zs h = elim (cases_lt a b) [
-  | inl less ↦ other (λ e. omega (arith, less, e))
-  | inr not ↦ elim (cases_lt b a) [
-    | inl more ↦ other (λ e. omega (arith, more, e))
-    | inr also ↦ same (omega (arith, not, also))
-  ]
-]
-  where
-    other : (a ≡ b → ⊥) → AreBuilt v (suc p) b zs.items
-    other ne = built_other v p b zs.items (λ e. ne (same_Some a b (sym slot ∙ e))) (all b zs h)
-
-    same : a ≡ b → AreBuilt v (suc p) b zs.items
-    same e = built_pushed v count p b zs.items zs.items k (slot ∙ ap Some e) (all b zs h) (bare_added v p n zs.items num bare)
+-- A place that needs no place adds the item of its section, if one begins there.
+pub begin_added : (v : SlottedTrace) (q n : ℕ) (o : Option Requirement) (old new : List Item) → number_at v.trace q ≡ Some n → NeedsNone v.trace q → IsBegin v q o →
+    new ≡ old ++ requirement_items n o → AddsRequirements v q old new
+begin_added v q n o old new num none begin is =
+    requirements_from v q n None None None o old old old old new num none.start none.first none.last begin (no_needs v q n old) (no_needs v q n old) (no_needs v q n old) is
 
 item_so : (d : Requirements) (a j : ℕ) (x : Item) → item_at d a j ≡ Some x → (xs : Vec Item Global) × (slice_get d.items.items a ≡ Some xs) × (slice_get xs.items j ≡ Some x)
 item_so d a j x h = go (slice_get d.items.items a) refl h

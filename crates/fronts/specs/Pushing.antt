@@ -80,12 +80,11 @@ pub record IsBegin (v : SlottedTrace) (q : ℕ) (o : Option Requirement) : Type 
       × EndsSection v.trace v.slots c
   pub begun : (k : ℕ) → BeginsOn v.trace q k → (requirement : Requirement) × (o ≡ Some requirement)
 
--- The place `q` needs no place but those before it in its thread, and begins no section.
-pub record IsBare (v : SlottedTrace) (q : ℕ) : Type 0 where
-  pub start : IsStart v.trace q None
-  pub first : IsFirstNeed v.trace q None
-  pub last : IsLastNeed v.trace q None
-  pub begin : IsBegin v q None
+-- The place `q` needs no place but those before it in its thread.
+pub record NeedsNone (s : Trace) (q : ℕ) : Type 0 where
+  pub start : IsStart s q None
+  pub first : IsFirstNeed s q None
+  pub last : IsLastNeed s q None
 
 -- A requirement of the place `q`, which has number `n`.
 pub record IsRequirement (v : SlottedTrace) (q n : ℕ) (i : Item) : Type 0 where

@@ -1,11 +1,12 @@
 //! What each place of a trace requires, in tables that are built once for the trace.
 
-ghost use Rattle.std.specs.Prelude.{◌≡◌, ◌+◌, ◌<◌, ◌^◌, length, ◌++◌, slice_get, Some, IfSome, OnOk, IfOk, IsTrue};
+ghost use Rattle.std.specs.Prelude.{◌≡◌, ◌+◌, ◌<◌, ◌≤◌, ◌^◌, length, ◌++◌, slice_get, Some, IfSome, OnOk, IfOk, IsTrue};
+ghost use Rattle.std.specs.Option.{ForSome};
 ghost use Rattle.trace_index.specs.Numbers.{thread_before};
 ghost use Rattle.trace_index.specs.Facts.{ArePlaceFacts};
 ghost use Rattle.fronts.specs.Slots.{slots_of, AreThreadSlots, HasSlotPosition};
 ghost use Rattle.fronts.specs.Requirements.{IsPrefixThrough, EndsSection};
-ghost use Rattle.fronts.specs.Pushing.{IsRequired, IsRedundant, AddsReach, requirement_items, trace_with_slots, IsStart, IsFirstNeed, IsLastNeed, IsBegin, IsBare, AddsRequirements, AreAllBuilt};
+ghost use Rattle.fronts.specs.Pushing.{IsRequired, IsRedundant, AddsReach, requirement_items, trace_with_slots, IsStart, IsFirstNeed, IsLastNeed, IsBegin, NeedsNone, AddsRequirements, AreAllBuilt};
 ghost use Rattle.fronts.specs.Firsts.{thread_slot_at, lock_slot_at, threads_below, locks_below};
 ghost use Rattle.fronts.specs.Tables.{AreSlotPositions, AreLockSlots};
 
@@ -15,6 +16,7 @@ use crate::slot_table::{SlotTable, next_count};
 use segments::MaybeIndex;
 use std::alloc::Global;
 use std::sync::Arc;
+use std::sync::atomic::{AtomicBool, Ordering};
 use trace_index::{PlaceFacts, TraceIndex};
 use trace_model::{NoMemory, Op, Place};
 
@@ -34,6 +36,9 @@ pub(crate) struct Section {
     pub(crate) place: Place,
     pub(crate) end: ThreadPrefix,
 }
+
+/// How many places are read between two looks at whether the tables are wanted.
+const BLOCK: usize = 4096;
 
 /// What a place requires.
 #[derive(Clone, Copy)]
@@ -313,16 +318,16 @@ fn begin_of(index: &TraceIndex, place: Place, slot: u32, lock: MaybeIndex) -> Op
     }
 }
 
-/// Returns `true` only if the place requires nothing but what thread order includes: it is not the
-/// first of its thread, and forks, writes or releases. `facts` are those of the place.
+/// Returns `true` only if the place needs no place but those before it in its thread: it is not the
+/// first of its thread, and is no join or read. `facts` are those of the place.
 #[inline(always)]
-fn is_bare(_index: &TraceIndex, _place: Place, facts: &PlaceFacts) -> bool
+fn needs_none(_index: &TraceIndex, _place: Place, facts: &PlaceFacts) -> bool
     requires { ArePlaceFacts _index.now.events _place facts.now }
-    ensures { IsTrue result → IsBare (trace_with_slots _index.now.events) _place }
+    ensures { IsTrue result → NeedsNone _index.now.events _place }
 {
     match facts.event.op {
-        Op::Fork(_) | Op::Write(_) | Op::Release(_) => facts.number > 0,
-        _ => false,
+        Op::Fork(_) | Op::Acquire(_) | Op::Release(_) | Op::Write(_) => facts.number > 0,
+        Op::Join(_) | Op::Read(_) => false,
     }
 }
 
@@ -345,8 +350,8 @@ fn push_requirement(
 }
 
 /// Appends the requirements of `place`, which is at `position`. `positions` are those of the
-/// earlier places, `lock` is the place's lock slot, `facts` are those of the place, and `cache`
-/// finds redundant requirements, which are left out.
+/// earlier places, `lock` is the place's lock slot, and `cache` finds redundant requirements, which
+/// are left out.
 ///
 /// # Errors
 /// `NoMemory` if an allocation fails; some may have been appended.
@@ -359,11 +364,10 @@ fn push_requirements(
     place: Place,
     position: ThreadPrefix,
     lock: MaybeIndex,
-    facts: &PlaceFacts,
 ) -> Result<(), NoMemory>
+    requires within { place < length index.now.events }
     requires positions { AreSlotPositions index.now.events positions.now }
     requires next { length positions.now ≡ place }
-    requires facts { ArePlaceFacts index.now.events place facts.now }
     requires position { HasSlotPosition index.now.events
         (thread_slot_at index.now.events) place position.slot position.count }
     requires lock { lock_slot_at index.now.events place ≡ lock }
@@ -371,13 +375,38 @@ fn push_requirements(
         items.old.items items.new.items) }
 {
     let _len = index.len(); // for the proof
-    let start = start_of(index, place, facts);
-    let first = first_need(index, place, facts);
-    let last = last_need(index, place, facts);
+    let facts = facts_at(index, place.get() as usize);
+    let start = start_of(index, place, &facts);
+    let first = first_need(index, place, &facts);
+    let last = last_need(index, place, &facts);
     let begin = begin_of(index, place, position.slot, lock);
     push_reach(index, positions, items, cache, position, start)?;
     push_reach(index, positions, items, cache, position, first)?;
     push_reach(index, positions, items, cache, position, last)?;
+    push_requirement(items, position.count, begin)
+}
+
+/// Appends the requirement of the section that begins at `place`, if one does. The place needs no
+/// place but those before it in its thread. The other parameters are those of `push_requirements`.
+///
+/// # Errors
+/// `NoMemory` if an allocation fails.
+#[inline(always)]
+fn push_begin(
+    index: &TraceIndex,
+    items: &mut Vec<Item>,
+    place: Place,
+    position: ThreadPrefix,
+    lock: MaybeIndex,
+) -> Result<(), NoMemory>
+    requires needs { NeedsNone index.now.events place }
+    requires position { HasSlotPosition index.now.events
+        (thread_slot_at index.now.events) place position.slot position.count }
+    requires lock { lock_slot_at index.now.events place ≡ lock }
+    ensures { OnOk result (AddsRequirements (trace_with_slots index.now.events) place
+        items.old.items items.new.items) }
+{
+    let begin = begin_of(index, place, position.slot, lock);
     push_requirement(items, position.count, begin)
 }
 
@@ -415,8 +444,8 @@ fn push_list(
     Ok(())
 }
 
-/// Appends the requirements of `place` to the list of its thread. Most places have none. The other
-/// parameters are those of `push_requirements`.
+/// Appends the requirements of `place` to the list of its thread. `facts` are those of the place.
+/// The other parameters are those of `push_requirements`.
 ///
 /// # Errors
 /// `NoMemory` if an allocation fails.
@@ -431,6 +460,7 @@ fn fill_place(
     lock: MaybeIndex,
     facts: &PlaceFacts,
 ) -> Result<(), NoMemory>
+    requires within { place < length index.now.events }
     requires positions { AreSlotPositions index.now.events positions.now }
     requires next { length positions.now ≡ place }
     requires facts { ArePlaceFacts index.now.events place facts.now }
@@ -443,16 +473,54 @@ fn fill_place(
     ensures built { OnOk result (AreAllBuilt (trace_with_slots index.now.events) (place + 1)
         lists.new.items) }
 {
-    if is_bare(index, place, facts) {
-        return Ok(());
-    }
     let items = &mut lists[position.slot as usize];
-    push_requirements(index, positions, items, cache, place, position, lock, facts)
+    if needs_none(index, place, facts) {
+        return push_begin(index, items, place, position, lock);
+    }
+    push_requirements(index, positions, items, cache, place, position, lock)
 }
 
 impl Tables {
     ghost use Rattle.fronts.specs.Requirements.{AreRequirements};
     ghost use Rattle.fronts.specs.Tables.{AreRequirementTables};
+
+    /// Returns the tables of no place, with room for the places of the trace.
+    ///
+    /// # Errors
+    /// `NoMemory` if an allocation fails.
+    fn new(alloc: Global, index: &TraceIndex) -> Result<Tables, NoMemory>
+        ensures { IfOk result (AreRequirementTables index.now.events 0) }
+    {
+        Ok(Tables {
+            positions: Vec::with_capacity(alloc, index.len())?,
+            locks: Vec::with_capacity(alloc, index.len())?,
+            lock_count: 0,
+            items: Vec::new(alloc),
+            cache: ItemCache::new(),
+        })
+    }
+
+    /// Appends the places from `first` on, up to `end`.
+    ///
+    /// # Errors
+    /// `NoMemory` if an allocation fails.
+    fn extend(
+        &mut self,
+        alloc: Global,
+        index: &TraceIndex,
+        first: usize,
+        end: usize,
+    ) -> Result<(), NoMemory>
+        requires within { end ≤ length index.now.events }
+        requires order { first ≤ end }
+        requires tables { AreRequirementTables index.now.events first self.old }
+        ensures { OnOk result (AreRequirementTables index.now.events end self.new) }
+    {
+        for place in first..end {
+            self.push(alloc, index, place)?;
+        }
+        Ok(())
+    }
 
     /// Appends the next place.
     ///
@@ -541,16 +609,34 @@ impl Requirements {
     pub fn build(alloc: Global, index: &TraceIndex) -> Result<Requirements, NoMemory>
         ensures { IfOk result (AreRequirements index.now.events) }
     {
-        let mut tables = Tables {
-            positions: Vec::with_capacity(alloc, index.len())?,
-            locks: Vec::with_capacity(alloc, index.len())?,
-            lock_count: 0,
-            items: Vec::new(alloc),
-            cache: ItemCache::new(),
-        };
-        for place in 0..index.len() {
-            tables.push(alloc, index, place)?;
-        }
+        let mut tables = Tables::new(alloc, index)?;
+        tables.extend(alloc, index, 0, index.len())?;
         tables.into_requirements(alloc, index)
+    }
+
+    /// Builds the tables as `build` does, or returns `None` once `wanted` is `false`. Another thread
+    /// may set it.
+    ///
+    /// # Errors
+    /// `NoMemory` if an allocation fails.
+    pub fn build_while(
+        alloc: Global,
+        index: &TraceIndex,
+        wanted: &AtomicBool,
+    ) -> Result<Option<Requirements>, NoMemory>
+        ensures { IfOk result (λ built. ForSome built (AreRequirements index.now.events)) }
+    {
+        let mut tables = Tables::new(alloc, index)?;
+        let mut end = 0;
+        while end < index.len() {
+            if !wanted.load(Ordering::SeqCst) {
+                return Ok(None);
+            }
+            let first = end;
+            end += BLOCK.min(index.len() - first);
+            tables.extend(alloc, index, first, end)?;
+        }
+        let requirements = tables.into_requirements(alloc, index)?;
+        Ok(Some(requirements))
     }
 }

@@ -1,5 +1,0 @@
-use Rattle.fronts.specs.Tables.{AreRequirementTables}
-use Rattle.fronts.proofs.requirements.Requirements.build.Given as goal
-
-abbrev pub invariant-loop-place : goal.invariant-loop-place
-invariant-loop-place l = AreRequirementTables l.index.events l.place l.tables
