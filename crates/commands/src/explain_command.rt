@@ -358,7 +358,7 @@ fn write_chosen<R: Threads + Sync, O: Write>(
     ensures { EndsWithResult (PrintsChosen snapshot bound cycle.now) ⊥ result
         (O.contents out.old) (O.contents out.new) }
 {
-    let analysis = analyze(alloc, snapshot, bound)?;
+    let analysis = analyze(rt, alloc, snapshot, bound)?;
     match cycle {
         Some(cycle) => write_one(alloc, state, analysis, cycle, out),
         None => write_all(rt, alloc, state, analysis, out),

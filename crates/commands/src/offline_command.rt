@@ -137,7 +137,7 @@ fn report_snapshot<R: Threads + Sync, P: Progress + Sync, O: Write>(
     ensures { EndsWithResult (ReportPrints snapshot bound) ⊥ result
         (O.contents out.old) (O.contents out.new) }
 {
-    let offline = Offline::of(alloc, analyze(alloc, snapshot, bound)?);
+    let offline = Offline::of(alloc, analyze(rt, alloc, snapshot, bound)?);
     report_on(rt, alloc, &offline, progress, out)
 }
 

@@ -208,7 +208,8 @@ pub(crate) fn open_file<R: Threads + Sync>(
 ///
 /// # Errors
 /// `NoMemory` if an allocation fails.
-pub(crate) fn analyze(
+pub(crate) fn analyze<R: Threads>(
+    rt: &R,
     alloc: Global,
     snapshot: Snapshot,
     bound: Bound,
@@ -216,7 +217,7 @@ pub(crate) fn analyze(
     ensures { IfOk result (λ shared.
         ((arc_value shared).events ≡ snapshot) × ((arc_value shared).bound ≡ bound)) }
 {
-    Analysis::new(alloc, Arc::new(alloc, snapshot)?, bound)
+    Analysis::new_on(rt, alloc, Arc::new(alloc, snapshot)?, bound)
 }
 
 /// Returns the snapshot of a trace, whose events are lawful.

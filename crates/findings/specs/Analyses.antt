@@ -1,10 +1,11 @@
 -- What contracts see of an analysis, and which tables it has.
-use Rattle.std.specs.Prelude.{◌≡◌, ℕ, List, Option, Some, MatchOption}
+use Rattle.std.specs.Prelude.{◌≡◌, ℕ, IsTrue, List, Option, Some, MatchOption}
 use Rattle.std.specs.Global.{Box}
 use Rattle.std.specs.Option.{ForSome}
 use Rattle.trace_model.specs.Theory.Trace.{Trace}
 use Rattle.trace_model.specs.Theory.Cycles.{IsCycle}
 use Rattle.trace_model.specs.Theory.Dependencies.{Dependency, dependencies}
+use Rattle.findings.specs.declared.first_look.FirstLook.{FirstLook}
 use Rattle.findings.specs.declared.tables.Tables.{Tables}
 use Rattle.cycle_search.specs.CycleSearch.{CycleFrom}
 use Rattle.cycle_search.specs.Components.{AreComponents}
@@ -28,6 +29,12 @@ HasNoCycle s bound = (numbers : List ℕ) → IsCycle (dependencies s) bound num
 -- No cycle up to the bound begins with the dependency with this number.
 abbrev pub HasNoCycleFrom : List Dependency → ℕ → ℕ → Type 0
 HasNoCycleFrom ds bound root = (numbers : List ℕ) → CycleFrom ds bound root numbers → ⊥
+
+-- The components are those of the trace's dependencies. If `has_no_cycle` is `true`, the trace has
+-- no cycle up to the bound.
+pub record IsFirstLook (s : Trace) (bound : ℕ) (look : FirstLook) : Type 0 where
+  pub components : AreComponents (dependencies s) look.components
+  pub no_cycle : IsTrue look.has_no_cycle → HasNoCycle s bound
 
 -- The requirements are those of the trace; if there are none, the trace has no cycle up to the
 -- bound.

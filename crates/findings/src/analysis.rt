@@ -1,13 +1,15 @@
 //! An analysis: a snapshot and a bound, with tables that threads share.
 
-ghost use Rattle.std.specs.Prelude.{◌≡◌, IfOk};
+ghost use Rattle.std.specs.Prelude.{◌≡◌, IfOk, IsTrue};
 ghost use Rattle.std.specs.Arc.{arc_value};
+ghost use Rattle.findings.specs.Analyses.{AreAnalysisTables, HasNoCycle};
 
 use crate::tables::Tables;
 use snapshots::Snapshot;
 use std::alloc::Global;
 use std::marker::Model;
 use std::sync::Arc;
+use std::thread::Threads;
 use trace_model::{Bound, NoMemory};
 
 /// A snapshot and a bound, with the tables that all tasks of a question read. It is immutable, so
@@ -57,6 +59,40 @@ impl Analysis {
             × ((arc_value a).bound ≡ bound)) }
     {
         let tables = Tables::new(alloc, &snapshot, bound)?;
+        Analysis::shared(alloc, snapshot, bound, tables)
+    }
+
+    /// Computes the tables as [`Analysis::new`] does, on two threads.
+    ///
+    /// # Errors
+    /// `NoMemory` if an allocation fails.
+    pub fn new_on<R: Threads>(
+        rt: &R,
+        alloc: Global,
+        snapshot: Arc<Snapshot, Global>,
+        bound: Bound,
+    ) -> Result<Arc<Analysis, Global>, NoMemory>
+        ensures { IfOk result (λ a. ((arc_value a).events ≡ arc_value snapshot)
+            × ((arc_value a).bound ≡ bound)) }
+    {
+        let tables = Tables::new_on(rt, alloc, &snapshot, bound)?;
+        Analysis::shared(alloc, snapshot, bound, tables)
+    }
+
+    /// Returns the shared analysis with these tables.
+    ///
+    /// # Errors
+    /// `NoMemory` if an allocation fails.
+    fn shared(
+        alloc: Global,
+        snapshot: Arc<Snapshot, Global>,
+        bound: Bound,
+        tables: Tables,
+    ) -> Result<Arc<Analysis, Global>, NoMemory>
+        requires { AreAnalysisTables (arc_value snapshot) bound tables }
+        ensures { IfOk result (λ a. ((arc_value a).events ≡ arc_value snapshot)
+            × ((arc_value a).bound ≡ bound)) }
+    {
         let analysis = Analysis {
             snapshot,
             bound,
@@ -70,6 +106,14 @@ impl Analysis {
         ensures { result ≡ self.now.bound }
     {
         self.bound
+    }
+
+    /// Returns `true` only if there is no cycle up to the bound. `false` says nothing. Does not
+    /// allocate.
+    pub fn has_no_cycle(&self) -> bool
+        ensures { IsTrue result → HasNoCycle self.now.events self.now.bound }
+    {
+        self.tables.requirements.is_none()
     }
 
     /// Returns the snapshot. Does not allocate.

@@ -10,19 +10,22 @@ ghost use Rattle.cycle_search.specs.CycleSearch.{CycleFrom, MoreThan, IfTooMany}
 ghost use Rattle.cycle_search.specs.Components.{AreComponents};
 ghost use Rattle.fronts.specs.Requirements.{AreRequirements};
 ghost use Rattle.sp_closure.specs.Timestamps.{AreTimestamps};
-ghost use Rattle.findings.specs.Analyses.{AreTraceRequirements, AreAnalysisTables, HasNoCycle, HasNoCycleFrom};
+ghost use Rattle.findings.specs.Analyses.{IsFirstLook, AreAnalysisTables, HasNoCycleFrom};
 ghost use Rattle.findings.specs.TaskSearches.{IsTaskSearch, AreSearchedCycles};
 
+use crate::first_look::FirstLook;
 use crate::task_search::TaskSearch;
 use cycle_search::{
     Collector, Components, Cycle, PausedSearch, SearchInput, SearchRefused, Searched,
-    collect_cycles, cycles_from, has_few_cycles, has_no_cycle,
+    collect_cycles, cycles_from, has_few_cycles,
 };
 use snapshots::Snapshot;
 use sp_closure::{Requirements, Steps, Timestamps};
 use std::alloc::Global;
 use std::marker::Brand;
+use std::sync::atomic::AtomicBool;
 use std::sync::ledger::{Blank, Ledger};
+use std::thread::{Threads, join};
 use trace_model::{Bound, NoMemory};
 
 /// The components, and if there may be cycles the requirements and the timestamps.
@@ -43,17 +46,74 @@ impl Tables {
     pub(crate) fn new(alloc: Global, snapshot: &Snapshot, bound: Bound) -> Result<Tables, NoMemory>
         ensures { IfOk result (AreAnalysisTables snapshot.now bound) }
     {
-        let components = components_of(alloc, snapshot)?;
-        let requirements = requirements_of(alloc, snapshot, &components, bound)?;
-        let timestamps = match &requirements {
-            Some(requirements) => {
-                timestamps_of(alloc, snapshot, &components, requirements, bound)?
-            }
-            None => None,
+        let wanted = AtomicBool::new(true);
+        let look = FirstLook::new(alloc, snapshot, bound, &wanted)?;
+        Tables::after(alloc, snapshot, bound, look, None)
+    }
+
+    /// Computes the tables as `new` does, on two threads. The second one builds the requirements
+    /// until the first look finds no cycle.
+    ///
+    /// # Errors
+    /// `NoMemory` if an allocation fails.
+    pub(crate) fn new_on<R: Threads>(
+        rt: &R,
+        alloc: Global,
+        snapshot: &Snapshot,
+        bound: Bound,
+    ) -> Result<Tables, NoMemory>
+        ensures { IfOk result (AreAnalysisTables snapshot.now bound) }
+    {
+        let wanted = AtomicBool::new(true);
+        // `join` runs its first closure on the other thread. The first look stays on this one: it
+        // is short for most traces, and ends the other.
+        let (early, look) = join(
+            rt,
+            || -> Option<Requirements>
+                ensures { ForSome result (AreRequirements snapshot.entry.now) }
+            { early_requirements(alloc, snapshot, &wanted) },
+            || -> Result<FirstLook, NoMemory>
+                ensures { IfOk result (IsFirstLook snapshot.entry.now bound) }
+            { FirstLook::new(alloc, snapshot, bound, &wanted) },
+        );
+        Tables::after(alloc, snapshot, bound, look?, early)
+    }
+
+    /// Computes the other tables after a first look. `early` are the requirements, if they are
+    /// built.
+    ///
+    /// # Errors
+    /// `NoMemory` if an allocation fails.
+    fn after(
+        alloc: Global,
+        snapshot: &Snapshot,
+        bound: Bound,
+        look: FirstLook,
+        early: Option<Requirements>,
+    ) -> Result<Tables, NoMemory>
+        requires look { IsFirstLook snapshot.now bound look }
+        requires early { ForSome early (AreRequirements snapshot.now) }
+        ensures { IfOk result (AreAnalysisTables snapshot.now bound) }
+    {
+        let FirstLook {
+            components,
+            has_no_cycle,
+        } = look;
+        if has_no_cycle {
+            return Ok(Tables {
+                components,
+                requirements: None,
+                timestamps: None,
+            });
+        }
+        let requirements = match early {
+            Some(requirements) => requirements,
+            None => Requirements::build(alloc, snapshot.index())?,
         };
+        let timestamps = timestamps_of(alloc, snapshot, &components, &requirements, bound)?;
         Ok(Tables {
             components,
-            requirements,
+            requirements: Some(requirements),
             timestamps,
         })
     }
@@ -170,53 +230,19 @@ impl Tables {
     }
 }
 
-/// Returns the components of the snapshot's dependencies.
-///
-/// # Errors
-/// `NoMemory` if an allocation fails.
-fn components_of(alloc: Global, snapshot: &Snapshot) -> Result<Components, NoMemory>
-    ensures { IfOk result (AreComponents (dependencies snapshot.now)) }
-{
-    Components::new(alloc, snapshot.table(), snapshot.graph())
-}
-
-/// Returns `true` only if there is no cycle up to the bound: the graph has none, or a search that
-/// visits at most as many members as the trace has events finds none. `false` says nothing.
-fn is_without_cycles(
+/// Returns the requirements of the snapshot's events. Returns `None` if `wanted` becomes `false`, or
+/// if an allocation fails.
+fn early_requirements(
     alloc: Global,
     snapshot: &Snapshot,
-    components: &Components,
-    bound: Bound,
-) -> bool
-    requires { AreComponents (dependencies snapshot.now) components.now }
-    ensures { IsTrue result → HasNoCycle snapshot.now bound }
+    wanted: &AtomicBool,
+) -> Option<Requirements>
+    ensures { ForSome result (AreRequirements snapshot.now) }
 {
-    if components.are_acyclic() {
-        return true;
+    match Requirements::build_while(alloc, snapshot.index(), wanted) {
+        Ok(built) => built,
+        Err(_) => None,
     }
-    let search_input = SearchInput::new(snapshot.table(), snapshot.graph(), components);
-    has_no_cycle(alloc, &search_input, bound, snapshot.len() as u64)
-}
-
-/// Returns the requirements of the snapshot's events, or `None` if there is no cycle up to the
-/// bound.
-///
-/// # Errors
-/// `NoMemory` if an allocation fails.
-fn requirements_of(
-    alloc: Global,
-    snapshot: &Snapshot,
-    components: &Components,
-    bound: Bound,
-) -> Result<Option<Requirements>, NoMemory>
-    requires { AreComponents (dependencies snapshot.now) components.now }
-    ensures { IfOk result (AreTraceRequirements snapshot.now bound) }
-{
-    if is_without_cycles(alloc, snapshot, components, bound) {
-        return Ok(None);
-    }
-    let requirements = Requirements::build(alloc, snapshot.index())?;
-    Ok(Some(requirements))
 }
 
 /// Returns the timestamps of the cyclic dependencies, if there are enough cycles and the timestamps

@@ -175,5 +175,5 @@ fn analyze<R: Threads>(
     let snapshot = Snapshot::build(rt, alloc, state, &events)?;
     drop(events);
     let snapshot = Arc::new(alloc, snapshot)?;
-    Analysis::new(alloc, snapshot, bound)
+    Analysis::new_on(rt, alloc, snapshot, bound)
 }

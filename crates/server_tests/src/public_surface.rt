@@ -13,7 +13,8 @@ use cycle_search::{
 use dependencies::{DepTable, Dependency};
 use desk::{Desk, Locked};
 use event_frames::{FrameReader, encode_reply};
-use findings::{Finding, Snapshot};
+use findings::{Analysis, Finding, Snapshot};
+use fronts::Requirements;
 use guards::compatible;
 use held_sets::HeldTable;
 use lock_graph::LockGraph;
@@ -24,8 +25,9 @@ use sequencer::{Batched, Book, NoSuchQuestion};
 use std::alloc::Global;
 use std::hash::RandomState;
 use std::process::Abort;
-use std::sync::Wait;
+use std::sync::atomic::AtomicBool;
 use std::sync::ledger::Ledger as Count;
+use std::sync::{Arc, Wait};
 use std::test::*;
 use std::thread::Threads;
 use trace_index::TraceIndex;
@@ -285,6 +287,50 @@ fn few_cycles_of_opposite_orders(rt: HostRuntime) -> Result<(), Fail> {
     assert_eq!(rt; none_allowed?, (false, false), "at most 0 cycles");
     assert_eq!(rt; without_visits?, (false, false), "no visit");
     assert_eq!(rt; one_allowed?, (false, true), "at most 1 cycle");
+    Ok(())
+}
+
+/// Returns whether the requirements of the snapshot are built, which are wanted or not.
+fn are_built(alloc: Global, snapshot: &Snapshot, wanted: bool) -> Result<bool, NoMemory> {
+    let flag = AtomicBool::new(wanted);
+    let built = Requirements::build_while(alloc, snapshot.index(), &flag)?;
+    Ok(built.is_some())
+}
+
+#[test]
+fn requirements_are_built_if_wanted(rt: HostRuntime) -> Result<(), Fail> {
+    let gate = gate_of(&rt, OPPOSITE_ORDERS.as_bytes()).ok_or("a gate")?;
+    let snapshot = build_snapshot(&rt, rt.alloc(), RandomState::new(&rt)?, &gate);
+    drop(gate);
+    let snapshot = snapshot?;
+    let wanted = are_built(rt.alloc(), &snapshot, true);
+    let unwanted = are_built(rt.alloc(), &snapshot, false);
+    drop(snapshot);
+    assert_eq!(rt; (wanted?, unwanted?), (true, false));
+    Ok(())
+}
+
+/// Returns whether an analysis of one thread, and one of two threads, has no cycle.
+fn have_no_cycle<R: Threads>(
+    rt: &R,
+    alloc: Global,
+    snapshot: Snapshot,
+) -> Result<(bool, bool), NoMemory> {
+    let snapshot = Arc::new(alloc, snapshot)?;
+    let one = Analysis::new(alloc, Arc::try_clone(&snapshot)?, Bound::least())?;
+    let two = Analysis::new_on(rt, alloc, snapshot, Bound::least())?;
+    Ok((one.has_no_cycle(), two.has_no_cycle()))
+}
+
+#[test]
+fn only_opposite_orders_without_gate_have_a_cycle(rt: HostRuntime) -> Result<(), Fail> {
+    for (orders, has_none) in [(GATED_ORDERS, true), (OPPOSITE_ORDERS, false)] {
+        let gate = gate_of(&rt, orders.as_bytes()).ok_or("a gate")?;
+        let snapshot = build_snapshot(&rt, rt.alloc(), RandomState::new(&rt)?, &gate);
+        drop(gate);
+        let have_none = have_no_cycle(&rt, rt.alloc(), snapshot?);
+        assert_eq!(rt; have_none?, (has_none, has_none), "{orders}");
+    }
     Ok(())
 }
 
