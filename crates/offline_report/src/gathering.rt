@@ -30,6 +30,9 @@ pub(crate) trait Computes: Sync {
     /// The results that a task may have.
     ghost may_give: { ℕ → Result Self.Given OfflineRefused → Type 0 };
 
+    /// Returns whether the tasks are too short for several threads. No result depends on it.
+    fn are_short(&self) -> bool;
+
     /// Returns a piece of which no task is computed.
     fn piece(&self) -> Self::Piece;
 
@@ -182,7 +185,7 @@ pub(crate) fn gather<R: Threads + Sync, C: Computes>(
 {
     let mut slots = no_results::<C>(alloc, tasks)?;
     let threads = current_num_threads(rt).min(tasks as usize / LEAST_TASKS);
-    if threads > 1 {
+    if threads > 1 && !computer.are_short() {
         for taken in take_all(rt, alloc, tasks, threads, computer)? {
             match taken {
                 Ok(done) => put_results::<C>(tasks, &mut slots, done),

@@ -137,6 +137,10 @@ impl<'a, A: About + Send + Sync, H: Hold + Sync> Computes for Question<'a, A, H>
 
     ghost may_give = { IsTaskWithin A.events A.bound A.limit };
 
+    fn are_short(&self) -> bool {
+        self.analysis.has_no_cycle()
+    }
+
     fn piece(&self) -> Piece<A> {
         Piece::new(self.alloc, self.analysis)
     }

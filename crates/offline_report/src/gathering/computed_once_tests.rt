@@ -10,6 +10,7 @@ use std::test::*;
 #[derive(Drop)]
 struct Squares {
     calls: AtomicU64,
+    short: bool,
 }
 
 /// Returns the square of the number of a task.
@@ -26,6 +27,10 @@ impl Computes for Squares {
 
     ghost may_give = { λ task result. ⊤ };
 
+    fn are_short(&self) -> bool {
+        self.short
+    }
+
     fn piece(&self) {}
 
     fn compute(&self, _piece: &mut (), task: u32) -> Result<u64, OfflineRefused> {
@@ -38,20 +43,23 @@ impl Computes for Squares {
 fn each_task_is_computed_once(rt: HostRuntime) -> Result<(), Fail> {
     // Around the tasks that a thread takes at once, and the least number of tasks of two threads.
     for tasks in [0u32, 1, 7, 8, 9, 31, 32, 33, 1000] {
-        let squares = Squares {
-            calls: AtomicU64::new(0),
-        };
-        let all = gather(&rt, rt.alloc(), tasks, &squares)??;
-        assert_eq!(rt; all.len(), tasks as usize, "{tasks} tasks");
-        for task in 0..tasks {
-            assert_eq!(rt;
-                all.get(task as usize).copied(),
-                Some(square(task)),
-                "of {tasks} tasks"
-            );
+        for short in [false, true] {
+            let squares = Squares {
+                calls: AtomicU64::new(0),
+                short,
+            };
+            let all = gather(&rt, rt.alloc(), tasks, &squares)??;
+            assert_eq!(rt; all.len(), tasks as usize, "{tasks} tasks, short: {short}");
+            for task in 0..tasks {
+                assert_eq!(rt;
+                    all.get(task as usize).copied(),
+                    Some(square(task)),
+                    "of {tasks} tasks, short: {short}"
+                );
+            }
+            let calls = squares.calls.load(Ordering::SeqCst);
+            assert_eq!(rt; calls, u64::from(tasks), "{tasks} tasks, short: {short}");
         }
-        let calls = squares.calls.load(Ordering::SeqCst);
-        assert_eq!(rt; calls, u64::from(tasks), "{tasks} tasks");
     }
     Ok(())
 }
@@ -70,6 +78,10 @@ impl Computes for Refuses {
     type Given = u64;
 
     ghost may_give = { λ task result. ⊤ };
+
+    fn are_short(&self) -> bool {
+        false
+    }
 
     fn piece(&self) {}
 
