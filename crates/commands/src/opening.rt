@@ -39,11 +39,19 @@ pub(crate) enum Opening {
     Refused(FirstUnlawful),
 }
 
-/// The least number of bytes of a block of lines that is not the last one of a file.
+/// The least number of bytes of the first block of lines of a file, unless it is the last one. It
+/// is small, since nothing else is done while it is read.
+const FIRST_BLOCK: usize = 16_384;
+
+/// The same for later blocks, which grow up to this size.
 const BLOCK: usize = 262_144;
 
+/// How many times as long as the block before it a block is at most. A block is read in about half
+/// of the time in which it is added to a snapshot.
+const GROWTH: usize = 2;
+
 /// Returns both results, or one of the errors.
-fn both(
+fn both_or_error(
     next: Result<AdmittedBlock, FileRefused>,
     built: Result<SnapshotBuilder, NoMemory>,
 ) -> Result<(AdmittedBlock, SnapshotBuilder), FileRefused>
@@ -71,7 +79,7 @@ fn both(
 /// # Errors
 /// - `Line` with the number of the block's first line that is not understood.
 /// - `NoMemory` if an allocation fails.
-fn step<R: Threads + Sync>(
+fn add_and_read<R: Threads + Sync>(
     rt: &R,
     alloc: Global,
     built: SnapshotBuilder,
@@ -98,7 +106,7 @@ fn step<R: Threads + Sync>(
             ensures { IfOk result (λ builder. builder ≡ built ++ events.items) }
         { built.extended(rt, &events) },
     );
-    both(next, built)
+    both_or_error(next, built)
 }
 
 /// Returns why a file is refused if its block `text`, which the rest follows, is refused: the number
@@ -159,7 +167,8 @@ fn open_blocks<R: Threads + Sync>(
     ensures opening { IfOk result (IsOpeningOf file.now) }
     ensures refused { IfErr result (RefusesLines (pieces_at 10 file.now)) }
 {
-    let (text, mut rest) = split_lines(file, BLOCK);
+    let mut size = FIRST_BLOCK;
+    let (text, mut rest) = split_lines(file, size);
     let mut built = SnapshotBuilder::new(alloc, state);
     let mut block = match read_block(alloc, text, AdmissionTables::new(alloc, state)) {
         Ok(block) => block,
@@ -176,8 +185,9 @@ fn open_blocks<R: Threads + Sync>(
                     let snapshot = built.extended(rt, &events)?.into_snapshot()?;
                     return Ok(Opening::Opened(snapshot));
                 };
-                let (text, later) = split_lines(more, BLOCK);
-                match step(rt, alloc, built, events, admission, text) {
+                size = BLOCK.min(size.saturating_mul(GROWTH));
+                let (text, later) = split_lines(more, size);
+                match add_and_read(rt, alloc, built, events, admission, text) {
                     Ok(next) => (block, built) = next,
                     Err(refused) => return Err(refused_in(file, text, later, refused)),
                 }

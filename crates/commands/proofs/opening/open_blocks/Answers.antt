@@ -33,8 +33,8 @@ returns-in_default-clause-opening g c =
     let is = c.in_ok-snapshot-in-Lawful.ensures ∙ c.in_ok-extended-in-Lawful.ensures ∙ ap (λ (b : Trace). built ++ b) c.deref.ensures.value in
     subst (λ (s : Trace). AreLawfulEventsOf s file) (sym is) (all_before file all before, read.1.well_formed)
 
-pub refused_in-requires-in-Err-step : goal.refused_in-requires-in-Err-step
-refused_in-requires-in-Err-step g c =
+pub refused_in-requires-in-Err-add_and_read : goal.refused_in-requires-in-Err-add_and_read
+refused_in-requires-in-Err-add_and_read g c =
     let file = c.args.file.now in
     let more = c.in-Some.more.now in
     let front = c.split_lines-in-Lawful.result.0.now in
@@ -42,7 +42,7 @@ refused_in-requires-in-Err-step g c =
     let all = c.loop-block.built ++ c.in-Lawful.events.items in
     let read = rw c.in-Lawful.is at c.loop-block.invariant in
     let before = rw c.in-Some.is at read.0 in
-    block_refused file more front (option_copied later) all c.in-Err-step.refused before (split_is more front later c.split_lines-in-Lawful.ensures.lines) (rw c.in-Err-step.is at c.step.ensures.refused)
+    block_refused file more front (option_copied later) all c.in-Err-add_and_read.refused before (split_is more front later c.split_lines-in-Lawful.ensures.lines) (rw c.in-Err-add_and_read.is at c.add_and_read.ensures.refused)
 
 pub loop-block-smaller : goal.loop-block-smaller
 loop-block-smaller g c =
@@ -58,10 +58,10 @@ loop-block-preserved g c =
     let front = c.split_lines-in-Lawful.result.0.now in
     let later = c.split_lines-in-Lawful.result.1 in
     let all = c.loop-block.built ++ c.in-Lawful.events.items in
-    let block = c.in-Ok-step.next.0 in
+    let block = c.in-Ok-add_and_read.next.0 in
     let read = rw c.in-Lawful.is at c.loop-block.invariant in
     let before = rw c.in-Some.is at read.0 in
-    let after = rw c.in-Ok-step.is at c.step.ensures.block in
-    let built = rw c.in-Ok-step.is at c.step.ensures.built in
+    let after = rw c.in-Ok-add_and_read.is at c.add_and_read.ensures.block in
+    let built = rw c.in-Ok-add_and_read.is at c.add_and_read.ensures.built in
     let next = next_block file more front (option_copied later) all block before (split_is more front later c.split_lines-in-Lawful.ensures.lines) after in
     subst (λ (s : Trace). IsReadTo file (option_copied later) s block) (sym built) next
