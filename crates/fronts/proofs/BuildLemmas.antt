@@ -1,11 +1,11 @@
 -- The tables while they are built, place by place.
-use Rattle.std.proofs.Common.{◌≡◌, ℕ, zero, suc, ◌+◌, ◌<◌, ◌≤◌, ◌⊎◌, inl, inr, Vec, List, [], ◌∷◌, ◌++◌, length, slice_get, slice_set, Option, Some, None, refl, sym, ap, subst, ◌∙◌, arith}
+use Rattle.std.proofs.Common.{◌≡◌, ℕ, zero, suc, ◌+◌, ◌<◌, ◌≤◌, ◌⊎◌, inl, inr, Vec, List, [], ◌∷◌, ◌++◌, length, slice_get, slice_set, Option, Some, None, refl, sym, ap, subst, ◌∙◌, add-one, get_or, arith}
 use Rattle.std.specs.Global.{Global}
 use Rattle.std.specs.List.{Contains}
 use Rattle.std.specs.Arc.{arc_value}
 use Rattle.std.specs.Option.{option_map, option_and_then}
 use Rattle.std.proofs.lemmas.Bool.{cases_lt}
-use Rattle.std.proofs.lemmas.Option.{none-some, same_Some, slice_get_within, slice_get_past, slice_get-get_or, get_or_from_slice_get}
+use Rattle.std.proofs.lemmas.Option.{none-some, same_Some, slice_get_within, slice_get_past, slice_get-get_or, slice_get_read, get_or_from_slice_get}
 use Rattle.std.proofs.lemmas.List.Elements.{Contains-append_cases}
 use Rattle.trace_model.specs.Theory.Trace.{Trace, OfThread}
 use Rattle.trace_model.specs.Theory.Held.{BeginsOn}
@@ -142,7 +142,7 @@ list_pushed s p old new one empty len is all =
     (none_built (trace_with_slots s) p (threads_below s p) (λ q l h. omega (arith, thread_slot_below s q (threads_below s p) p h l))))
 
 -- One more place.
-pub all_pushed : (v : SlottedTrace) (count p a : ℕ) (lists : List (Vec Item Global)) (old new : Vec Item Global) → AreSlots v.trace v.slots count → v.slots p ≡ Some a →
+all_pushed : (v : SlottedTrace) (count p a : ℕ) (lists : List (Vec Item Global)) (old new : Vec Item Global) → AreSlots v.trace v.slots count → v.slots p ≡ Some a →
     slice_get lists a ≡ Some old → AddsRequirements v p old.items new.items → AreAllBuilt v p lists → AreAllBuilt v (suc p) (slice_set lists a new)
 all_pushed v count p a lists old new k slot at adds all b zs h = elim (cases_lt a b) [
   | inl less ↦ other (λ e. omega (arith, less, e))
@@ -160,6 +160,19 @@ all_pushed v count p a lists old new k slot at adds all b zs h = elim (cases_lt 
         let is : new ≡ zs = same_Some new zs (sym (get-set_same lists a old new at) ∙ subst (λ z. slice_get (slice_set lists a new) z ≡ Some zs) (sym e) h) in
         subst (λ z. AreBuilt v (suc p) b z.items) is
         (subst (λ z. AreBuilt v (suc p) z new.items) e (built_pushed v count p a old.items new.items k slot (all a old at) adds))
+
+-- One more place, whose requirements are added to the list of its thread.
+pub place_built : (s : Trace) (p a : ℕ) (lists : List (Vec Item Global)) (old new : Vec Item Global) → thread_slot_at s p ≡ Some a → length lists ≡ threads_below s (p + 1) →
+    old ≡ get_or lists a old → AreAllBuilt (trace_with_slots s) p lists → AddsRequirements (trace_with_slots s) p old.items new.items →
+    AreAllBuilt (trace_with_slots s) (p + 1) (slice_set lists a new)
+place_built s p a lists old new slot count value all adds =
+    rw add-one (all_pushed (trace_with_slots s) _ p a lists old new (thread_slots s) slot at adds all)
+  where
+    few : a < threads_below s (p + 1)
+    few = thread_slot_below s p a (p + 1) slot (omega arith)
+
+    at : slice_get lists a ≡ Some old
+    at = slice_get_read lists (threads_below s (p + 1)) a old (sym count) few value
 
 -- A place that needs no place adds the item of its section, if one begins there.
 pub begin_added : (v : SlottedTrace) (q n : ℕ) (o : Option Requirement) (old new : List Item) → number_at v.trace q ≡ Some n → NeedsNone v.trace q → IsBegin v q o →
