@@ -21,8 +21,7 @@ pub(crate) struct FirstLook {
 
 impl FirstLook {
     /// Computes the components of the snapshot's dependencies, and whether there is no cycle up to
-    /// the bound. If there is none, sets `wanted` to `false`, so that another thread stops building
-    /// what only cycles need.
+    /// the bound.
     ///
     /// # Errors
     /// `NoMemory` if an allocation fails.
@@ -30,19 +29,39 @@ impl FirstLook {
         alloc: Global,
         snapshot: &Snapshot,
         bound: Bound,
-        wanted: &AtomicBool,
     ) -> Result<FirstLook, NoMemory>
         ensures { IfOk result (IsFirstLook snapshot.now bound) }
     {
         let components = Components::new(alloc, snapshot.table(), snapshot.graph())?;
         let has_no_cycle = is_without_cycles(alloc, snapshot, &components, bound);
-        if has_no_cycle {
-            wanted.store(false, Ordering::SeqCst);
-        }
         Ok(FirstLook {
             components,
             has_no_cycle,
         })
+    }
+
+    /// Computes the same. Sets `wanted` to `false` unless there may be a cycle, so that another
+    /// thread stops building what only cycles need.
+    ///
+    /// # Errors
+    /// `NoMemory` if an allocation fails.
+    pub(crate) fn new_for(
+        alloc: Global,
+        snapshot: &Snapshot,
+        bound: Bound,
+        wanted: &AtomicBool,
+    ) -> Result<FirstLook, NoMemory>
+        ensures { IfOk result (IsFirstLook snapshot.now bound) }
+    {
+        let look = FirstLook::new(alloc, snapshot, bound);
+        let may_have_cycles = match &look {
+            Ok(look) => !look.has_no_cycle,
+            Err(_) => false,
+        };
+        if !may_have_cycles {
+            wanted.store(false, Ordering::SeqCst);
+        }
+        look
     }
 }
 

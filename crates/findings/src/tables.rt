@@ -46,8 +46,7 @@ impl Tables {
     pub(crate) fn new(alloc: Global, snapshot: &Snapshot, bound: Bound) -> Result<Tables, NoMemory>
         ensures { IfOk result (AreAnalysisTables snapshot.now bound) }
     {
-        let wanted = AtomicBool::new(true);
-        let look = FirstLook::new(alloc, snapshot, bound, &wanted)?;
+        let look = FirstLook::new(alloc, snapshot, bound)?;
         Tables::after(alloc, snapshot, bound, look, None)
     }
 
@@ -74,7 +73,7 @@ impl Tables {
             { early_requirements(alloc, snapshot, &wanted) },
             || -> Result<FirstLook, NoMemory>
                 ensures { IfOk result (IsFirstLook snapshot.entry.now bound) }
-            { FirstLook::new(alloc, snapshot, bound, &wanted) },
+            { FirstLook::new_for(alloc, snapshot, bound, &wanted) },
         );
         Tables::after(alloc, snapshot, bound, look?, early)
     }
