@@ -43,11 +43,11 @@ pub(crate) enum Opening {
 /// is small, since nothing else is done while it is read.
 const FIRST_BLOCK: usize = 16_384;
 
-/// The same for later blocks, which grow up to this size.
+/// The same for a later block, at most.
 const BLOCK: usize = 262_144;
 
-/// How many times as long as the block before it a block is at most. A block is read in about half
-/// of the time in which it is added to a snapshot.
+/// How many times the least number of bytes of a block is that of the block before it, up to
+/// `BLOCK`. A block is read in about half of the time in which it is added to a snapshot.
 const GROWTH: usize = 2;
 
 /// Returns both results, or one of the errors.
