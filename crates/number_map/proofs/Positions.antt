@@ -1,11 +1,11 @@
 -- What the position of a number says of the entries.
-use Rattle.std.proofs.Common.{◌≡◌, ℕ, zero, suc, Bool, true, false, cond, nat_eq, List, [], ◌∷◌, length, slice_get, Option, Some, None, IsSome, is_some, refl, sym, ap, subst, ◌∙◌}
+use Rattle.std.proofs.Common.{◌≡◌, ℕ, zero, suc, ◌+◌, Bool, not, true, false, cond, nat_eq, List, [], ◌∷◌, length, slice_get, Option, Some, None, IsSome, is_some, refl, sym, ap, subst, ◌∙◌, arith}
 use Rattle.std.proofs.lemmas.Bool.{eq-eqb, ne_eqb, eqb-true, eqb-false, false≢true}
 use Rattle.std.proofs.lemmas.Option.{none-some, same_Some}
 use Rattle.std.proofs.lemmas.Map.{lookup-set_value}
 use Rattle.std.specs.Cmp.{nat_eq_equiv}
 use Rattle.indexmap.specs.IndexMap.{insert_entry, set_value_at}
-use Rattle.std.specs.List.{AllByRecursion, IsDistinct}
+use Rattle.std.specs.List.{AllByRecursion, IsDistinct, position_or_len}
 use Rattle.std.specs.Map.{keys_of, values_of, lookup, set_value}
 use Rattle.number_map.specs.Positions.{HasNumberAt}
 use Rattle.number_map.proofs.Entries.{entry_at, value_at}
@@ -74,6 +74,30 @@ unfolding IsDistinct
 value_own {V} [] n i once h = absurd (none-some n h)
 value_own {V} (e ∷ es) n zero once h = rw (eq-eqb n e.0 (sym (same_Some e.0 n h))) refl
 value_own {V} (e ∷ es) n (suc i) once h = rw (apart e.0 n (keys_of es) i once.0 h) (value_own es n i once.1 h)
+
+-- a number with an entry is at the first position of its key
+found_first : {V : Type 0} → (es : List (ℕ × V)) (n : ℕ) → IsSome (lookup (nat_eq n) es) → slice_get (keys_of es) (position_or_len (nat_eq n) (keys_of es)) ≡ Some n
+found_first {V} [] n there = absurd (false≢true there)
+found_first {V} (e ∷ es) n there = go (nat_eq n e.0) refl there (found_first es n)
+  where
+    go : (b : Bool) → nat_eq n e.0 ≡ b → IsSome (cond b (Some e.1) (lookup (nat_eq n) es)) →
+        (IsSome (lookup (nat_eq n) es) → slice_get (keys_of es) (position_or_len (nat_eq n) (keys_of es)) ≡ Some n) →
+        slice_get (e.0 ∷ keys_of es) (cond (not b) (1 + position_or_len (nat_eq n) (keys_of es)) 0) ≡ Some n
+    go true is h rest = ap Some (sym (eqb-true n e.0 is))
+    go false is h rest =
+        let next : suc (position_or_len (nat_eq n) (keys_of es)) ≡ 1 + position_or_len (nat_eq n) (keys_of es) = omega arith in
+        subst (λ i. slice_get (e.0 ∷ keys_of es) i ≡ Some n) next (rest h)
+
+pub has_found : {V : Type 0} → (es more : List (ℕ × V)) (n i : ℕ) → more ≡ es → IsSome (lookup (nat_eq n) es) → i ≡ position_or_len (nat_eq n) (keys_of es) →
+    IsDistinct nat_eq (keys_of es) → HasNumberAt more n (Some i)
+has_found {V} es more n i same there is once = subst (λ xs. HasNumberAt xs n (Some i)) (sym same) (record {
+  key = λ j h. subst (λ k. slice_get (keys_of es) k ≡ Some n) (same_Some i j h) at;
+  value = λ j h. subst (λ k. slice_get (values_of es) k ≡ lookup (nat_eq n) es) (same_Some i j h) (value_own es n i once at);
+  absent = λ h. absurd (none-some i (sym h));
+})
+  where
+    at : slice_get (keys_of es) i ≡ Some n
+    at = ap (slice_get (keys_of es)) is ∙ found_first es n there
 
 -- a new number is at the end
 added_last : {V : Type 0} → (es : List (ℕ × V)) (n : ℕ) (v : V) → lookup (nat_eq n) es ≡ None →

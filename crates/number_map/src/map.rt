@@ -1,6 +1,6 @@
 //! The map, and the look-up of a number's position in it.
 
-ghost use Rattle.std.specs.Prelude.{◌≡◌, ℕ, Some, None, IsSome, is_some, true, [], cond, nat_eq, unwrap_or, option_copied, IfOk, OnOk, OnErr};
+ghost use Rattle.std.specs.Prelude.{◌≡◌, ℕ, Some, None, IsSome, IfSome, is_some, true, [], cond, nat_eq, unwrap_or, option_copied, IfOk, OnOk, OnErr};
 ghost use Rattle.std.specs.Option.{option_copied_mut};
 ghost use Rattle.std.specs.Map.{lookup, set_value};
 ghost use Rattle.std.specs.Borrow.{sem, LendsIf};
@@ -9,6 +9,7 @@ ghost use Rattle.number_map.specs.contracts.map.NumberMap.{the_row};
 
 use crate::growing_cache::GrowingCache;
 use indexmap::IndexMap;
+use indexmap::map::Entry;
 use std::alloc::{AllocError, Global};
 use std::collections::hash_map::RandomState;
 use std::marker::Model;
@@ -56,20 +57,32 @@ fn position_of<V>(entries: &Entries<V>, candidate: usize, number: u32) -> Option
     uncached_position_of(entries, number)
 }
 
-/// Returns the position of `number`. Hashes it only if it is not at the position that it has if the
-/// numbers were added in order, from 0 or from 1.
+/// Returns the position that `number` has if the numbers were added in order, from 0 or from 1, or
+/// `None` if it is at neither.
+#[inline(always)]
+fn position_in_order<V>(entries: &Entries<V>, number: u32) -> Option<usize>
+    ensures { IfSome result (λ i. HasNumberAt entries.now.entries number (Some i)) }
+{
+    let from_zero = number as usize;
+    if is_at(entries, from_zero, number) {
+        return Some(from_zero);
+    }
+    let from_one = from_zero.saturating_sub(1);
+    if is_at(entries, from_one, number) {
+        return Some(from_one);
+    }
+    None
+}
+
+/// Returns the position of `number`. Hashes it only if it is not at the position in order.
 #[inline(never)]
 fn uncached_position_of<V>(entries: &Entries<V>, number: u32) -> Option<usize>
     ensures { HasNumberAt entries.now.entries number result }
 {
-    let in_order = number as usize;
-    if is_at(entries, in_order, number) {
-        return Some(in_order);
+    match position_in_order(entries, number) {
+        Some(position) => Some(position),
+        None => entries.get_index_of(&number),
     }
-    if is_at(entries, in_order.saturating_sub(1), number) {
-        return Some(in_order.saturating_sub(1));
-    }
-    entries.get_index_of(&number)
 }
 
 impl<V: Drop> NumberMap<V> {
@@ -184,16 +197,16 @@ impl<V: Drop> NumberMap<V> {
         ensures err { OnErr result (self.new ≡ self.old) }
         ensures absent { OnErr result (lookup (nat_eq number) self.old ≡ None) }
     {
-        match self.find_position(number) {
-            Some(position) => Ok(position),
-            None => self.add(number, default),
+        let candidate = self.cache.candidate(number);
+        if is_at(&self.entries, candidate, number) {
+            return Ok(candidate);
         }
+        self.reserve_uncached(number, default)
     }
 
-    /// Makes an entry for `number`, which has none, and returns its position.
+    /// Makes an entry as `reserve_position` does, and caches its position.
     #[inline(never)]
-    fn add(&mut self, number: u32, default: V) -> Result<usize, AllocError>
-        requires { lookup (nat_eq number) self.old ≡ None }
+    fn reserve_uncached(&mut self, number: u32, default: V) -> Result<usize, AllocError>
         ensures shown { (q : ℕ) → unwrap_or (lookup (nat_eq q) self.new) default ≡
             unwrap_or (lookup (nat_eq q) self.old) default }
         ensures ok { OnOk result (IsSome (lookup (nat_eq number) self.new)) }
@@ -201,12 +214,36 @@ impl<V: Drop> NumberMap<V> {
         ensures kept { (q : ℕ) → IsSome (lookup (nat_eq q) self.old) →
             IsSome (lookup (nat_eq q) self.new) }
         ensures err { OnErr result (self.new ≡ self.old) }
+        ensures absent { OnErr result (lookup (nat_eq number) self.old ≡ None) }
     {
-        let position = self.entries.len();
-        self.cache.fit(position + 1)?;
-        self.entries.insert(number, default)?;
+        let position = match position_in_order(&self.entries, number) {
+            Some(position) => position,
+            None => self.reserve_hashed(number, default)?,
+        };
         self.cache.record(number, position);
         Ok(position)
+    }
+
+    /// Makes an entry as `reserve_position` does, and hashes the number once.
+    fn reserve_hashed(&mut self, number: u32, default: V) -> Result<usize, AllocError>
+        ensures shown { (q : ℕ) → unwrap_or (lookup (nat_eq q) self.new) default ≡
+            unwrap_or (lookup (nat_eq q) self.old) default }
+        ensures ok { OnOk result (IsSome (lookup (nat_eq number) self.new)) }
+        ensures position { IfOk result (λ i. HasNumberAt self.new number (Some i)) }
+        ensures kept { (q : ℕ) → IsSome (lookup (nat_eq q) self.old) →
+            IsSome (lookup (nat_eq q) self.new) }
+        ensures err { OnErr result (self.new ≡ self.old) }
+        ensures absent { OnErr result (lookup (nat_eq number) self.old ≡ None) }
+    {
+        let count = self.entries.len();
+        match self.entries.entry(number)? {
+            Entry::Occupied(entry) => Ok(entry.index()),
+            Entry::Vacant(entry) => {
+                self.cache.fit(count + 1)?;
+                entry.insert(default);
+                Ok(count)
+            }
+        }
     }
 
     /// Sets the value of `number`, which must have an entry. Does not allocate.
