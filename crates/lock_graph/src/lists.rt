@@ -6,12 +6,14 @@ ghost use Rattle.std.specs.List.Sorted.{IsStrictlyIncreasing};
 ghost use Rattle.lock_graph.specs.Lists.{lock_numbers, listed_with, AreListedWith, HasRoomAt, HaveListRoom};
 
 use indexmap::IndexMap;
+use smallvec::SmallVec;
 use std::alloc::Global;
 use std::collections::hash_map::RandomState;
 use trace_model::NoMemory;
 
-/// The list of numbers of each lock.
-pub(crate) type Lists = IndexMap<u32, Vec<u32>, RandomState>;
+/// The list of numbers of each lock. Most locks are held in few dependencies: a list of up to four
+/// numbers needs no allocation of its own.
+pub(crate) type Lists = IndexMap<u32, SmallVec<u32, 4>, RandomState>;
 
 /// Adds a number at each of the locks, which must ascend. Hashes each lock once. If an allocation
 /// fails, the number is taken back from the locks before.
@@ -83,9 +85,7 @@ fn reserve_one(lists: &mut Lists, alloc: Global, lock: u32) -> Result<(), NoMemo
     match lists.get_mut(&lock) {
         Some(list) => list.reserve(1)?,
         None => {
-            let mut list = Vec::new(alloc);
-            list.reserve(1)?;
-            lists.insert(lock, list)?;
+            lists.insert(lock, SmallVec::new(alloc))?;
         }
     }
     Ok(())
@@ -114,14 +114,8 @@ fn add_one(lists: &mut Lists, alloc: Global, lock: u32, number: u32) -> Result<(
     ensures err { OnErr result ((other : ℕ) →
         lock_numbers lists.new other ≡ lock_numbers lists.old other) }
 {
-    match lists.get_mut(&lock) {
-        Some(list) => list.push(number)?,
-        None => {
-            let mut list = Vec::new(alloc);
-            list.push(number)?;
-            lists.insert(lock, list)?;
-        }
-    }
+    let list = lists.entry(lock)?.or_insert(SmallVec::new(alloc));
+    list.push(number)?;
     Ok(())
 }
 
