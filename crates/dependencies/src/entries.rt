@@ -79,12 +79,12 @@ impl Entries {
 
     /// Adds a place of the dependency, and returns its number. Memory must be reserved.
     #[inline(always)]
-    pub(crate) fn record(&mut self, place: Place, dependency: Dependency) -> usize
+    pub(crate) fn record(&mut self, place: Place, dependency: &Dependency) -> usize
         requires room { (shown_by self.old).room ≡ true }
         requires kept { AreRightEntries self.old }
         requires listing { IsListing (listing_of self.old) }
         requires below { EndBelow (listing_of self.old) place }
-        ensures noted { HaveOneMore (listing_of self.old) place dependency result
+        ensures noted { HaveOneMore (listing_of self.old) place dependency.now result
             (listing_of self.new) }
         ensures kept { AreRightEntries self.new }
     {

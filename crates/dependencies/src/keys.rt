@@ -111,32 +111,32 @@ impl Keys {
     /// Returns the number of `dependency`. A new one is added at the end. Memory must be reserved,
     /// and its number must have 32 bits.
     #[inline(always)]
-    pub(crate) fn record(&mut self, dependency: Dependency) -> usize
+    pub(crate) fn record(&mut self, dependency: &Dependency) -> usize
         requires room { self.old.room ≡ true }
         requires few { length self.old.keys < 4294967296 }
-        ensures keys { self.new.keys ≡ with_new self.old.keys (Some dependency) }
-        ensures number { position (same_dependency dependency) self.new.keys ≡ Some result }
+        ensures keys { self.new.keys ≡ with_new self.old.keys (Some dependency.now) }
+        ensures number { position (same_dependency dependency.now) self.new.keys ≡ Some result }
     {
-        let key = cache_key(&dependency);
+        let key = cache_key(dependency);
         let candidate = self.cache.candidate(key);
-        if self.is_at(candidate, &dependency) {
+        if self.is_at(candidate, dependency) {
             return candidate;
         }
-        let hash = hash_of(&self.state, &dependency);
+        let hash = hash_of(&self.state, dependency);
         let number = self.record_hashed(hash, dependency);
         self.cache.record(key, number);
         number
     }
 
     /// Returns the number of `dependency`, which has this hash. A new one is added at the end.
-    fn record_hashed(&mut self, hash: u32, dependency: Dependency) -> usize
-        requires hash { hash ≡ dependency_hash self.old.state dependency }
+    fn record_hashed(&mut self, hash: u32, dependency: &Dependency) -> usize
+        requires hash { hash ≡ dependency_hash self.old.state dependency.now }
         requires room { self.old.room ≡ true }
         requires few { length self.old.keys < 4294967296 }
-        ensures keys { self.new.keys ≡ with_new self.old.keys (Some dependency) }
-        ensures number { position (same_dependency dependency) self.new.keys ≡ Some result }
+        ensures keys { self.new.keys ≡ with_new self.old.keys (Some dependency.now) }
+        ensures number { position (same_dependency dependency.now) self.new.keys ≡ Some result }
     {
-        match self.number_of(hash, &dependency) {
+        match self.number_of(hash, dependency) {
             Some(number) => number,
             None => self.add(hash, dependency),
         }
@@ -164,17 +164,17 @@ impl Keys {
     }
 
     /// Adds a new dependency, which has this hash, at the end, and returns its number.
-    fn add(&mut self, hash: u32, dependency: Dependency) -> usize
-        requires hash { hash ≡ dependency_hash self.old.state dependency }
-        requires new { position (same_dependency dependency) self.old.keys ≡ None }
+    fn add(&mut self, hash: u32, dependency: &Dependency) -> usize
+        requires hash { hash ≡ dependency_hash self.old.state dependency.now }
+        requires new { position (same_dependency dependency.now) self.old.keys ≡ None }
         requires room { self.old.room ≡ true }
         requires few { length self.old.keys < 4294967296 }
-        ensures keys { self.new.keys ≡ self.old.keys ++ dependency ∷ [] }
-        ensures number { position (same_dependency dependency) self.new.keys ≡ Some result }
+        ensures keys { self.new.keys ≡ self.old.keys ++ dependency.now ∷ [] }
+        ensures number { position (same_dependency dependency.now) self.new.keys ≡ Some result }
     {
         let number = self.numbers.len();
         self.numbers.push(hash);
-        self.list.put(dependency);
+        self.list.put(dependency.copied());
         number
     }
 

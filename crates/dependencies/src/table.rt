@@ -77,12 +77,12 @@ impl DepTable {
     ///
     /// `NoMemory` if an allocation fails. The dependencies and places do not change.
     #[inline(always)]
-    pub fn note(&mut self, place: Place, dependency: Dependency) -> Result<u32, NoMemory>
+    pub fn note(&mut self, place: Place, dependency: &Dependency) -> Result<u32, NoMemory>
         requires { AllBelow self.old place }
-        ensures ok { IfOk result (λ number. IsNoted self.old place dependency number self.new) }
+        ensures ok { IfOk result (λ number. IsNoted self.old place dependency.now number self.new) }
         ensures err { OnErr result (self.new.shown ≡ self.old.shown) }
     {
-        self.reserve(place, &dependency)?;
+        self.reserve(place, dependency)?;
         Ok(self.record(place, dependency))
     }
 
@@ -103,10 +103,10 @@ impl DepTable {
     /// Adds a place of `dependency`, as `note` does, and returns its number. Memory must be
     /// reserved, and the place must be later than all recorded places. Does not allocate.
     #[inline(always)]
-    pub fn record(&mut self, place: Place, dependency: Dependency) -> u32
+    pub fn record(&mut self, place: Place, dependency: &Dependency) -> u32
         requires room { self.old.room ≡ true }
         requires below { AllBelow self.old place }
-        ensures { IsNoted self.old place dependency result self.new }
+        ensures { IsNoted self.old place dependency.now result self.new }
     {
         let _index = place.get(); // for the proof: the range of a place bounds the numbers
         self.entries.record(place, dependency) as u32

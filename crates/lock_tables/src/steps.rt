@@ -50,7 +50,7 @@ pub(crate) fn record_place(table: &mut DepTable, held: &HeldTable, event: &Event
 {
     tables_follow(); // for the proof
     if let Some(dependency) = next_dependency(held, *event) {
-        table.record(place, dependency);
+        table.record(place, &dependency);
     }
 }
 
@@ -85,7 +85,7 @@ pub(crate) fn note_place(
 {
     tables_follow(); // for the proof
     if let Some(dependency) = next_dependency(held, *event) {
-        table.note(place, dependency)?;
+        table.note(place, &dependency)?;
     }
     Ok(())
 }

@@ -36,7 +36,7 @@ fn note_place(
 {
     match next_dependency(held, event) {
         Some(dependency) => {
-            let number = table.note(place, dependency)?;
+            let number = table.note(place, &dependency)?;
             Ok(Some(number))
         }
         None => Ok(None),

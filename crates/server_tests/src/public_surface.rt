@@ -96,7 +96,7 @@ fn dependency(alloc: Global, state: RandomState) -> Result<Dependency, Fail> {
 fn first_dependency(rt: HostRuntime) -> Result<(), Fail> {
     let state = RandomState::new(&rt)?;
     let mut table = DepTable::new(rt.alloc(), state);
-    let number = table.note(Place::new(3), dependency(rt.alloc(), state)?)?;
+    let number = table.note(Place::new(3), &dependency(rt.alloc(), state)?)?;
     assert_eq!(rt; number, 0);
     drop(table);
     Ok(())

@@ -24,8 +24,8 @@ record-number-requires-clause-few c =
 pub overflow_cast-number : goal.overflow_cast-number
 overflow_cast-number c =
     let e = c.args.self.now in
-    let most = within e.keys.keys c.record-number.new.self.keys c.args.dependency c.record-number.result
-    (recorded e.keys.keys c.record-number.new.self.keys c.args.dependency c.record-number.result c.record-number.ensures.keys c.record-number.ensures.number) in
+    let most = within e.keys.keys c.record-number.new.self.keys c.args.dependency.now c.record-number.result
+    (recorded e.keys.keys c.record-number.new.self.keys c.args.dependency.now c.record-number.result c.record-number.ensures.keys c.record-number.ensures.number) in
     let len = length_from 0 e.keys.keys e.places.notes in
     fits c.record-number.result c.args.place c.get-index.result (number_small (listing_of e) c.args.place c.record-number.result c.requires.listing c.requires.below (omega (arith, most, len))) c.get-index.ensures c.get-index.type_inv
 
@@ -35,11 +35,11 @@ returns-clause-noted c =
     let ds = e.keys.keys in
     let n = c.record-number.result in
     let notes = c.record.new.self.notes in
-    elim (recorded e.keys.keys c.record-number.new.self.keys c.args.dependency c.record-number.result c.record-number.ensures.keys c.record-number.ensures.number) [
+    elim (recorded e.keys.keys c.record-number.new.self.keys c.args.dependency.now c.record-number.result c.record-number.ensures.keys c.record-number.ensures.number) [
       | inl a ↦
-          subst (λ ks. HaveOneMore (listing_of e) c.args.place c.args.dependency n (listing_from 0 ks notes)) (sym a.0)
-          (known_noted ds e.places.notes notes c.args.place c.args.dependency n c.requires.kept.beyond a.1 (slice_get_within ds n c.args.dependency a.1) c.record.ensures.notes)
-      | inr a ↦ new_noted ds c.record-number.new.self.keys e.places.notes notes c.args.place c.args.dependency n c.requires.kept.beyond a.2 a.1 c.record.ensures.notes a.0
+          subst (λ ks. HaveOneMore (listing_of e) c.args.place c.args.dependency.now n (listing_from 0 ks notes)) (sym a.0)
+          (known_noted ds e.places.notes notes c.args.place c.args.dependency.now n c.requires.kept.beyond a.1 (slice_get_within ds n c.args.dependency.now a.1) c.record.ensures.notes)
+      | inr a ↦ new_noted ds c.record-number.new.self.keys e.places.notes notes c.args.place c.args.dependency.now n c.requires.kept.beyond a.2 a.1 c.record.ensures.notes a.0
     ]
 
 pub returns-clause-kept : goal.returns-clause-kept
@@ -49,12 +49,12 @@ returns-clause-kept c =
     let n = c.record-number.result in
     let notes = c.record.new.self.notes in
     let numbers = c.record.new.self.numbers in
-    elim (recorded e.keys.keys c.record-number.new.self.keys c.args.dependency c.record-number.result c.record-number.ensures.keys c.record-number.ensures.number) [
+    elim (recorded e.keys.keys c.record-number.new.self.keys c.args.dependency.now c.record-number.result c.record-number.ensures.keys c.record-number.ensures.number) [
       | inl a ↦
           subst (λ ks. IsKeptOf ks notes numbers) (sym a.0)
-          (kept_known ds e.places.notes notes c.args.place n e.places.numbers numbers c.requires.kept c.requires.below (slice_get_within ds n c.args.dependency a.1) c.record.ensures.notes c.record.ensures.numbers)
+          (kept_known ds e.places.notes notes c.args.place n e.places.numbers numbers c.requires.kept c.requires.below (slice_get_within ds n c.args.dependency.now a.1) c.record.ensures.notes c.record.ensures.numbers)
       | inr a ↦
-          kept_new ds c.record-number.new.self.keys e.places.notes notes c.args.place c.args.dependency n e.places.numbers numbers c.requires.kept c.requires.below a.1 c.record.ensures.notes a.0 c.record.ensures.numbers
+          kept_new ds c.record-number.new.self.keys e.places.notes notes c.args.place c.args.dependency.now n e.places.numbers numbers c.requires.kept c.requires.below a.1 c.record.ensures.notes a.0 c.record.ensures.numbers
     ]
 
 pub record-requires-clause-few : goal.record-requires-clause-few
@@ -66,6 +66,6 @@ record-requires-clause-few c =
 pub record-requires-clause-number : goal.record-requires-clause-number
 record-requires-clause-number c =
     let e = c.args.self.now in
-    let most = within e.keys.keys c.record-number.new.self.keys c.args.dependency c.record-number.result
-    (recorded e.keys.keys c.record-number.new.self.keys c.args.dependency c.record-number.result c.record-number.ensures.keys c.record-number.ensures.number) in
+    let most = within e.keys.keys c.record-number.new.self.keys c.args.dependency.now c.record-number.result
+    (recorded e.keys.keys c.record-number.new.self.keys c.args.dependency.now c.record-number.result c.record-number.ensures.keys c.record-number.ensures.number) in
     omega (arith, most, c.requires.kept.counted)
