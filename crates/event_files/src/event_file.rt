@@ -330,6 +330,19 @@ fn keep_line<'a>(
     }
 }
 
+/// Returns an empty list with room for the events of a file. A word and the byte after it take at
+/// least four bytes.
+///
+/// # Errors
+///
+/// `NoMemory` if the allocation fails.
+fn with_room(alloc: Global, file: &[u8]) -> Result<Vec<Event>, NoMemory>
+    ensures { IfOk result (λ kept. kept.items ≡ []) }
+{
+    let words = file.len() / 4 + 1;
+    Ok(Vec::with_capacity(alloc, words.min(MAX_KEPT))?)
+}
+
 /// Returns the events of a file, in order, but at most one more than a trace has. Each word of the
 /// file is read, and no line or word is kept.
 ///
@@ -341,7 +354,7 @@ pub fn read_events(alloc: Global, file: &[u8]) -> Result<Vec<Event>, FileRefused
     ensures events { IfOk result (λ events. AreFirstEventsOf events.items file.now) }
     ensures refused { IfErr result (RefusesLines (pieces_at 10 file.now)) }
 {
-    let mut kept = Vec::new(alloc);
+    let mut kept = with_room(alloc, file)?;
     let mut number = 1usize;
     let mut rest = file;
     while let Some(more) = keep_line(&mut kept, rest, number)? {

@@ -8,7 +8,7 @@ pub returns-in_err-more-clause-refused : goal.returns-in_err-more-clause-refused
 returns-in_err-more-clause-refused c =
     let file = c.args.file.now in
     let fits : length file < 2 ^ 64 = search rules in
-    let p = err_from_is_err_and c.from_residual.result c.from_residual.ensures.1 in
+    let p = err_from_is_err_and c.from_residual-in_err-more.result c.from_residual-in_err-more.ensures.1 in
     let refused = read_refused file c.loop-kept.kept.items c.loop-kept.rest.now c.loop-kept.number c.in_err-more.field-0.0 fits c.loop-kept.invariant c.in_err-more.ensures.refused in
     subst (λ r. IfErr r (RefusesLines (pieces_at 10 file))) (sym p.1) (subst (RefusesLines (pieces_at 10 file)) (sym p.2) refused)
 
