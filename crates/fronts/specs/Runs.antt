@@ -1,5 +1,5 @@
 -- Runs: consecutive places of one thread.
-use Rattle.std.specs.Prelude.{◌≡◌, ℕ, ◌+◌, ◌-◌, ◌<◌, ◌≤◌, List, length, slice_get, Some}
+use Rattle.std.specs.Prelude.{◌≡◌, ℕ, ◌+◌, ◌-◌, ◌<◌, ◌≤◌, ◌^◌, List, length, slice_get, Some}
 use Rattle.fronts.specs.declared.requirements.ThreadPrefix.{ThreadPrefix}
 
 -- The position `later` is `n` places after the position `to`, in the same thread.
@@ -14,7 +14,8 @@ pub record IsThreadRun (positions : List ThreadPrefix) (p end : ℕ) : Type 0 wh
       slice_get positions p ≡ Some to →
       slice_get positions q ≡ Some later → IsPositionAfter to (q - p) later
 
--- Each place is listed with an end of a run that begins with it.
-pub record AreRunEnds (positions : List ThreadPrefix) (ends : List ℕ) : Type 0 where
-  pub each : (p end : ℕ) → slice_get ends p ≡ Some end → IsThreadRun positions p end
-  pub all : length ends ≡ length positions
+-- Each place is listed with the length of a run that begins with it.
+pub record AreRunLengths (positions : List ThreadPrefix) (lengths : List ℕ) : Type 0 where
+  pub each : (p n : ℕ) → slice_get lengths p ≡ Some n → IsThreadRun positions p (p + n)
+  pub all : length lengths ≡ length positions
+  pub few : length positions < 2 ^ 32

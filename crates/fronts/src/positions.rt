@@ -16,26 +16,26 @@ pub(crate) struct Run {
 }
 
 /// For each place of a trace the prefix of its thread that is before it. Consecutive places of one
-/// thread are a run. A walk over the places takes each run in one step.
+/// thread are a run. A walk over the places takes up to 65,535 places of a run in one step.
 ///
 /// Contracts see the list of the prefixes.
 #[derive(Drop)]
 pub struct Positions {
     prefixes: Vec<ThreadPrefix>,
-    /// For each place the end of its run.
-    ends: Vec<u32>,
+    /// For each place the number of places from it to the end of its run, at most 65,535.
+    lengths: Vec<u16>,
 }
 
 impl Model for Positions {
     ghost use Rattle.std.specs.Prelude.{List};
     ghost use Rattle.fronts.specs.declared.requirements.ThreadPrefix.{ThreadPrefix};
-    ghost use Rattle.fronts.specs.Runs.{AreRunEnds};
+    ghost use Rattle.fronts.specs.Runs.{AreRunLengths};
 
     ghost Value = { List ThreadPrefix };
 
     ghost view = { λ p. p.prefixes.items };
 
-    ghost invariant = { λ p. AreRunEnds p.prefixes.items p.ends.items };
+    ghost invariant = { λ p. AreRunLengths p.prefixes.items p.lengths.items };
 }
 
 /// Returns whether `next` is the position after `here` in the same thread.
@@ -45,18 +45,17 @@ fn is_next(here: ThreadPrefix, next: ThreadPrefix) -> bool
     next.slot == here.slot && here.count < next.count && next.count - here.count == 1
 }
 
-/// Returns the end of the run that begins with `place`. `later` is the end of the one that begins
-/// with the next place, if there is one.
-fn run_end(prefixes: &[ThreadPrefix], place: usize, later: u32) -> u32
+/// Returns the length of a run that begins with `place`. `later` is that of one that begins with the
+/// next place, if there is one.
+fn run_length(prefixes: &[ThreadPrefix], place: usize, later: u16) -> u16
     requires within { place < length prefixes.now }
-    requires few { length prefixes.now < 2 ^ 32 }
     requires later { place + 1 < length prefixes.now →
-        IsThreadRun prefixes.now (place + 1) later }
-    ensures { IsThreadRun prefixes.now place result }
+        IsThreadRun prefixes.now (place + 1) (place + 1 + later) }
+    ensures { IsThreadRun prefixes.now place (place + result) }
 {
     match prefixes.get(place + 1) {
-        Some(next) if is_next(prefixes[place], *next) => later,
-        _ => place as u32 + 1,
+        Some(next) if later < u16::MAX && is_next(prefixes[place], *next) => later + 1,
+        _ => 1,
     }
 }
 
@@ -69,15 +68,15 @@ impl Positions {
         requires { length prefixes.items < 2 ^ 32 }
         ensures { IfOk result (λ positions. positions ≡ prefixes.items) }
     {
-        let mut ends = vec![in alloc; 0u32; prefixes.len()]?;
+        let mut lengths = vec![in alloc; 0u16; prefixes.len()]?;
         let mut place = prefixes.len();
-        let mut end = 0;
+        let mut length = 0;
         while place > 0 {
             place -= 1;
-            end = run_end(prefixes.as_slice(), place, end);
-            ends[place] = end;
+            length = run_length(prefixes.as_slice(), place, length);
+            lengths[place] = length;
         }
-        Ok(Positions { prefixes, ends })
+        Ok(Positions { prefixes, lengths })
     }
 
     /// Returns the position of `place`, or `None` if it is past the end of the trace. Does not
@@ -99,7 +98,7 @@ impl Positions {
         match self.prefixes.get(index) {
             Some(prefix) => Some(Run {
                 prefix: *prefix,
-                end: self.ends[index],
+                end: place.get() + self.lengths[index] as u32,
             }),
             None => None,
         }
