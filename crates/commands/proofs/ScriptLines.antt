@@ -1,9 +1,9 @@
 -- The commands that lines say.
 use Rattle.std.proofs.Common.{◌≡◌, ℕ, ◌+◌, ◌<◌, List, [], ◌∷◌, ◌++◌, length, map, take, get_or, inr, refl, sym, ap, subst, ◌∙◌, append_assoc}
 use Rattle.std.specs.List.{All, flat_map}
-use Rattle.std.proofs.lemmas.List.{append-nil, take_more}
+use Rattle.std.proofs.lemmas.List.{append-nil, map-append, take_more}
 use Rattle.std.proofs.lemmas.List.Concat.{flat_map-cons}
-use Rattle.std.proofs.lemmas.List.Elements.{All-map}
+use Rattle.std.proofs.lemmas.List.Elements.{All-map, All-nil, All-push}
 use Rattle.trace_model.specs.declared.traces.event.Event.{Event}
 use Rattle.trace_model.specs.Protocol.Frames.{FitsWords}
 use Rattle.event_files.specs.EventFile.{event_word, line_words}
@@ -22,6 +22,25 @@ says_offers words events are fit = record {
   fit = All-map FitsCommand Offer events fit;
   alone = inr (All-map IsOffer Offer events (λ k d lt. tt));
 }
+
+-- offers of the events that the words denote are appended
+abbrev pub AddsOffers : List Command → List (List ℕ) → List Command → Type 0
+AddsOffers old words new = (events : List Event) × (map event_word events ≡ words) × All FitsWords events × (new ≡ old ++ map Offer events)
+
+pub adds_nothing : (old : List Command) → AddsOffers old [] old
+adds_nothing old = ([], refl, All-nil FitsWords, sym (append-nil old))
+
+-- one offer more
+pub adds_offer : (old between new : List Command) (words : List (List ℕ)) (event : Event) → AddsOffers old words between → FitsWords event → new ≡ between ++ Offer event ∷ [] → AddsOffers old (words ++ event_word event ∷ []) new
+adds_offer old between new words event (events, are, fit, is) fits pushed = (
+  events ++ event ∷ [],
+  map-append event_word events (event ∷ []) ∙ ap (λ said. said ++ event_word event ∷ []) are,
+  All-push FitsWords events event fit fits,
+  pushed ∙ ap (λ commands. commands ++ Offer event ∷ []) is ∙ append_assoc old (map Offer events) (Offer event ∷ []) ∙ ap (λ more. old ++ more) (sym (map-append Offer events (event ∷ []))),
+)
+
+pub adds_line : (old new : List Command) (words : List (List ℕ)) → AddsOffers old words new → AddsLine old words new
+adds_line old new words (events, are, fit, is) = (map Offer events, says_offers words events are fit, is)
 
 lines_more : (lines : List (List ℕ)) (line : List ℕ) (commands more : List Command) → SaysLines lines commands → SaysLine (line_words line) more → SaysLines (lines ++ line ∷ []) (commands ++ more)
 lines_more [] line commands more said says = (more, [], says, refl, ap (λ c. c ++ more) said ∙ sym (append-nil more))

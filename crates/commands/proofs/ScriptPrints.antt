@@ -13,7 +13,7 @@ use Rattle.event_frames.specs.Reader.{Answers, IsFed, FrameReaderView, TakesRequ
 use Rattle.sequencer.specs.Called.{StepsOrMemory, WantsRightly}
 use Rattle.commands.specs.Script.{reply_text}
 use Rattle.commands.specs.ScriptFile.{FitsCommand, SaysLines}
-use Rattle.commands.specs.ScriptTells.{Prints, PrintsAll, Replies}
+use Rattle.commands.specs.ScriptTells.{Prints, PrintsAll, Replies, RepliesToFrame}
 use Rattle.commands.specs.declared.script_command.reading.Command.{Command}
 
 -- ---- a request
@@ -45,14 +45,12 @@ takes_frame old new given request fits is takes =
     (same, append_cancel_left (frame request) new.rest [] whole)
 
 -- the reply to it
-pub replied : (s mid next : State) (given request : Request) (reply : Reply) → StepsOrMemory s given reply mid → WantsRightly s given reply → given ≡ request → next ≡ mid →
-    Replies s request next (reply_text reply)
-replied s mid next given request reply steps rightly same kept = (
-  reply,
-  subst (λ (r : Request). StepsOrMemory s r reply next) same (subst (StepsOrMemory s given reply) (sym kept) steps),
-  subst (λ (r : Request). WantsRightly s r reply) same rightly,
-  refl,
-)
+pub replies_to : (old new : FrameReaderView) (given : Request) (s next : State) (reply : Reply) → TakesRequest old given new → StepsOrMemory s given reply next → WantsRightly s given reply → RepliesToFrame old.rest s reply next
+replies_to old new given s next reply takes steps rightly request fits is =
+    subst (λ (r : Request). StepsOrMemory s r reply next × WantsRightly s r reply) (takes_frame old new given request fits is takes).0 (steps, rightly)
+
+pub replied : (s mid next : State) (request : Request) (reply : Reply) → StepsOrMemory s request reply mid × WantsRightly s request reply → next ≡ mid → Replies s request next (reply_text reply)
+replied s mid next request reply (steps, rightly) kept = (reply, subst (StepsOrMemory s request reply) (sym kept) steps, rightly, refl)
 
 -- ---- commands
 

@@ -21,6 +21,13 @@ use Rattle.commands.specs.declared.script_command.reading.Command.TheVariants.{O
 abbrev pub IsFrame : List ℕ → Type 0
 IsFrame bytes = (request : Request) × IsRequest request × (bytes ≡ frame request)
 
+-- the reply to the request of this frame is the machine's, and leads from the first state to the
+-- second; or it is `NoMemory`, if the machine accepts the request and its reply needs an allocation
+abbrev pub RepliesToFrame : List ℕ → State → Reply → State → Type 0
+RepliesToFrame bytes s reply next = (request : Request) → IsRequest request →
+    bytes ≡ frame request →
+    StepsOrMemory s request reply next × WantsRightly s request reply
+
 -- the text is that of the machine's reply to the request; or of `NoMemory`, if the machine accepts
 -- the request and its reply needs an allocation
 abbrev pub Replies : State → Request → State → List ℕ → Type 0

@@ -15,7 +15,7 @@ ghost use Rattle.commands.specs.Output.{AppendsPart, EndsWithResult, IsCutShort,
 ghost use Rattle.commands.specs.Script.{reply_text};
 ghost use Rattle.commands.specs.ScriptFile.{FitsCommand};
 ghost use Rattle.commands.specs.ScriptRun.{DeliversTask, DeliversOne, IsJobIn, RefusesTask, Works, outcome_line};
-ghost use Rattle.commands.specs.ScriptTells.{HasWrongCommand, IsFrame, IsPrintOf, IsReplyTo, Prints, PrintsAll, PrintsFirst, Replies, RunPrints, ScriptPrints, ScriptTells};
+ghost use Rattle.commands.specs.ScriptTells.{HasWrongCommand, IsFrame, IsPrintOf, IsReplyTo, Prints, PrintsAll, PrintsFirst, Replies, RepliesToFrame, RunPrints, ScriptPrints, ScriptTells};
 ghost use Rattle.commands.specs.declared.exit.Status.TheVariants.{Error};
 
 use crate::exit::{CommandError, Status, reported, write_bytes};
@@ -100,8 +100,7 @@ impl ScriptSession {
         ensures failed { IfErr result (λ error. error_status error ≡ Error) }
     {
         self.reader.feed(bytes)?;
-        let request = request_in(self.reader.next());
-        let reply = self.book.call(&request);
+        let reply = reply_to_next(&mut self.reader, &mut self.book);
         let written = self.write(&reply, out);
         drop(reply);
         written
@@ -223,6 +222,33 @@ impl ScriptSession {
         drop(job);
         worked
     }
+}
+
+/// Returns the book's reply to the request whose frame is the rest of the reader.
+fn reply_to_next(reader: &mut FrameReader, book: &mut Book) -> Reply
+    requires frame { IsFrame reader.old.rest }
+    requires faultless { reader.old.returned ≡ None }
+    ensures replied { RepliesToFrame reader.old.rest book.old.state result book.new.state }
+    ensures read { reader.new.rest ≡ [] }
+    ensures same { (reader.new.returned ≡ None) × (reader.new.ended ≡ reader.old.ended) }
+{
+    match reader.next_offer() {
+        Some(event) => book.call_offer(event),
+        None => reply_to_any(reader, book),
+    }
+}
+
+/// Returns the book's reply to the request whose frame is the rest of the reader. Not inlined,
+/// since it pays at entry for a request on the stack, which is much larger than an event.
+#[inline(never)]
+fn reply_to_any(reader: &mut FrameReader, book: &mut Book) -> Reply
+    requires frame { IsFrame reader.old.rest }
+    requires faultless { reader.old.returned ≡ None }
+    ensures replied { RepliesToFrame reader.old.rest book.old.state result book.new.state }
+    ensures read { reader.new.rest ≡ [] }
+    ensures same { (reader.new.returned ≡ None) × (reader.new.ended ≡ reader.old.ended) }
+{
+    book.call(&request_in(reader.next()))
 }
 
 /// Returns the request that was read from a whole frame.

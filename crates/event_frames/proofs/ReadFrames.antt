@@ -33,6 +33,11 @@ reading rest ended returned buffered capacity = record { rest = rest; ended = en
 is_none : (returned : Option Fault) → returned ≡ None → IsSome returned → {A : Type 0} → A
 is_none returned e s {A} = let t : IsSome {T = Fault} None = subst (λ (o : Option Fault). IsSome o) e s in absurd cc
 
+-- a reader that has unread bytes has returned no fault
+pub no_fault : {n : ℕ} (returned : Option Fault) → (IsSome returned → n ≡ 0) → 0 < n → returned ≡ None
+no_fault None nothing some = refl
+no_fault (Some fault) nothing some = absurd (omega (arith, some, nothing refl))
+
 pub tells_header : (rest : List ℕ) (ended : Bool) (returned : Option Fault) (buffered capacity : ℕ) (fault : Fault) (old new : FrameReaderView) → reading rest ended returned buffered capacity ≡ old → returned ≡ None → leading_of rest ≡ Err fault → new ≡ reading [] old.ended (Some fault) 0 old.capacity → TellsFault old fault new
 tells_header rest ended returned buffered capacity fault old new e fault_free f n =
     subst (λ (o : FrameReaderView). new ≡ reading [] o.ended (Some fault) 0 o.capacity → TellsFault o fault new) e (λ m.

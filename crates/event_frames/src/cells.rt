@@ -65,7 +65,7 @@ pub(crate) fn event_bytes(event: &Event) -> [u8; 9]
 }
 
 /// Returns whether the byte is the kind of an event.
-fn is_event_kind(kind: u8) -> bool
+pub(crate) fn is_event_kind(kind: u8) -> bool
     ensures { result ≡ is_event_kind kind }
 {
     1 <= kind && kind <= 6

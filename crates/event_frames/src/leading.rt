@@ -1,9 +1,10 @@
 //! The first frame in the bytes of a session.
-ghost use Rattle.std.specs.Prelude.{◌≡◌, ◌+◌, ◌≤◌, length, true, None};
-ghost use Rattle.trace_model.specs.Protocol.Frames.{fields_fault, header_fault, is_kind, is_length_of, request_of};
-ghost use Rattle.event_frames.specs.Leading.{IsLeading};
+ghost use Rattle.std.specs.Prelude.{◌≡◌, ◌+◌, ◌≤◌, length, true, IfNone, IfSome, None, Ok, Some};
+ghost use Rattle.trace_model.specs.Protocol.Frames.{fields_fault, header_fault, is_event_kind, is_kind, is_length_of, request_of};
+ghost use Rattle.trace_model.specs.declared.messages.session.Request.TheVariants.{Offer};
+ghost use Rattle.event_frames.specs.Leading.{BeginsNoOffer, IsLeading};
 
-use crate::cells::{batch_fault, op_of, read_batch, word};
+use crate::cells::{batch_fault, is_event_kind, op_of, read_batch, word};
 use trace_model::{Event, Fault, Request};
 
 /// Returns whether the byte is the kind of a request.
@@ -68,6 +69,19 @@ fn header_fault(bytes: &[u8]) -> Option<Fault>
     }
 }
 
+/// Returns the event of this kind whose fields are at the start of the bytes.
+#[inline(always)]
+fn event_with(kind: u8, fields: &[u8]) -> Event
+    requires kind { is_event_kind kind ≡ true }
+    requires whole { 8 ≤ length fields.now }
+    ensures { Offer result ≡ request_of kind fields.now }
+{
+    Event {
+        thread: word(fields),
+        op: op_of(kind, word(&fields[4..])),
+    }
+}
+
 /// Returns the request of this kind whose fields are at the start of the bytes.
 #[tactic(auto, unfolding(trace_model::specs::Protocol::Frames::request_of))]
 fn request_of(kind: u8, len: u16, fields: &[u8]) -> Request
@@ -78,15 +92,30 @@ fn request_of(kind: u8, len: u16, fields: &[u8]) -> Request
     ensures { result ≡ request_of kind fields.now }
 {
     match kind {
-        1..=6 => Request::Offer(Event {
-            thread: word(fields),
-            op: op_of(kind, word(&fields[4..])),
-        }),
+        1..=6 => Request::Offer(event_with(kind, fields)),
         7 => Request::Ask(fields[0]),
         8 => Request::Answer(word(fields)),
         9 => Request::Status(word(fields)),
         _ => Request::Batch(read_batch(usize::from(fields[0]), &fields[1..])),
     }
+}
+
+/// Returns the event of the offer at the start of the bytes, and the length of its frame in bytes.
+/// Returns `None` if the bytes do not begin with the whole frame of an offer.
+#[inline(always)]
+pub(crate) fn leading_offer(bytes: &[u8]) -> Option<(Event, usize)>
+    ensures offer { IfSome result
+        (λ found. IsLeading bytes.now (Ok (Some (Offer found.0, found.1)))) }
+    ensures none { IfNone result (BeginsNoOffer bytes.now) }
+{
+    let [high, low, kind, fields @ ..] = bytes else {
+        return None;
+    };
+    let len = u16::from_be_bytes([*high, *low]);
+    if len != 9 || !is_event_kind(*kind) || fields.len() < 8 {
+        return None;
+    }
+    Some((event_with(*kind, fields), 11))
 }
 
 /// Returns the first request and the length of its frame in bytes, or `None` if the bytes have no

@@ -1,12 +1,14 @@
 //! The reader of a session: requests from bytes that arrive in pieces.
-ghost use Rattle.std.specs.Prelude.{◌≡◌, ℕ, ◌<◌, ◌+◌, List, ◌++◌, [], length, true, false, None, Some, Ok, OnOk, OnErr, IsSome, is_some, ◌||◌};
-ghost use Rattle.event_frames.specs.Reader.{IsFed, Answers, HasRead, Tells};
+ghost use Rattle.std.specs.Prelude.{◌≡◌, ℕ, ◌<◌, ◌+◌, List, ◌∷◌, ◌++◌, [], length, true, false, None, Some, Ok, OnOk, OnErr, IfNone, IfSome, IsSome, is_some, ◌||◌};
+ghost use Rattle.event_frames.specs.Leading.{BeginsNoOffer};
+ghost use Rattle.event_frames.specs.Reader.{IsFed, Answers, HasRead, TakesRequest, Tells};
 ghost use Rattle.trace_model.specs.declared.messages.session.Request.{Request};
+ghost use Rattle.trace_model.specs.declared.messages.session.Request.TheVariants.{Offer};
 
-use crate::leading::leading;
+use crate::leading::{leading, leading_offer};
 use std::alloc::Global;
 use std::marker::Model;
-use trace_model::{Fault, NoMemory, Request};
+use trace_model::{Event, Fault, NoMemory, Request};
 
 /// The bytes of a session that have arrived and are not yet returned as requests.
 ///
@@ -126,6 +128,20 @@ impl FrameReader {
             → Tells text given self.old.ended result self.new }
     {
         self.read_frame()
+    }
+
+    /// Returns the event of the next request if it is an offer and its whole frame has arrived.
+    /// Otherwise returns `None`, and the reader is unchanged. Does not allocate. This is faster
+    /// than `next`, since an event is smaller than a request.
+    pub fn next_offer(&mut self) -> Option<Event>
+        ensures taken { IfSome result (λ event. TakesRequest self.old (Offer event) self.new) }
+        ensures none { IfNone result (BeginsNoOffer self.old.rest × (self.new ≡ self.old)) }
+        ensures grammar { (text : List ℕ) (given : List Request) → HasRead text given self.old
+            → IfSome result (λ event. HasRead text (given ++ Offer event ∷ []) self.new) }
+    {
+        let (event, len) = leading_offer(&self.bytes[self.start..])?;
+        self.start += len;
+        Some(event)
     }
 
     /// Returns the next request, the fault, or `None`.

@@ -33,7 +33,6 @@ use Rattle.sequencer.specs.QuestionState.{QuestionView, question_of, plain_rows,
 use Rattle.sequencer.specs.declared.answering.Answer.{Answer as Answered}
 use Rattle.sequencer.specs.declared.answering.Answer.TheVariants.{Pending as AnswerPending, Settled}
 use Rattle.sequencer.specs.declared.answering.AnswerRefused.{AnswerRefused}
-use Rattle.sequencer.specs.declared.answering.AnswerRefused.TheVariants as NoAnswer
 use Rattle.sequencer.specs.declared.asking.AskRefused.{AskRefused}
 use Rattle.sequencer.specs.Book.{AreEventsIfOpen, IsAccepted, IsAnswered, text_reply, IsLeastMissingTask, IsRefusal, Refuses, RefusesAnswer, RefusesAsk, RefusesOffer, TakesMemory, answer_refusal, answer_reply, ask_refusal, finding_refused}
 use Rattle.sequencer.specs.Printing.{report_printer}

@@ -155,20 +155,34 @@ impl Book {
         reply
     }
 
-    /// Answers a request: offers a batch; prepares and commits any other request. If an allocation
-    /// fails the reply is `NoMemory`, and nothing changes except for the accepted events of a
-    /// batch.
+    /// Answers the request that offers `event`. If an allocation fails the reply is `NoMemory`, and
+    /// nothing changes.
+    pub fn call_offer(&mut self, event: Event) -> Reply
+        ensures steps { StepsOrMemory self.old.state (requests.Offer event) result self.new.state }
+        ensures wanting { WantsRightly self.old.state (requests.Offer event) result }
+        ensures fits { IsReply result }
+    {
+        match self.offer(event) {
+            Ok(place) => Reply::Placed(place),
+            Err(refusal) => Reply::Refused(refusal),
+        }
+    }
+
+    /// Answers a request: offers an event or a batch; prepares and commits any other request. If an
+    /// allocation fails the reply is `NoMemory`, and nothing changes except for the accepted events
+    /// of a batch.
     pub fn call(&mut self, request: &Request) -> Reply
         ensures steps { StepsOrMemory self.old.state request.now result self.new.state }
         ensures wanting { WantsRightly self.old.state request.now result }
         ensures fits { IsReply result }
     {
-        if let Request::Batch(batch) = request {
-            return self.offer_batch(batch.events()).reply();
-        }
-        match self.prepare(request) {
-            Ok(planned) => self.commit(planned),
-            Err(reply) => reply,
+        match request {
+            Request::Offer(event) => self.call_offer(*event),
+            Request::Batch(batch) => self.offer_batch(batch.events()).reply(),
+            _ => match self.prepare(request) {
+                Ok(planned) => self.commit(planned),
+                Err(reply) => reply,
+            },
         }
     }
 }

@@ -1,11 +1,10 @@
 //! Parses script files.
-ghost use Rattle.std.specs.Prelude.{◌≡◌, ◌∷◌, ◌++◌, [], true, false, IfErr, IfNone, IfOk, IfSome, Ok, OnOk, codes, decimal, map};
+ghost use Rattle.std.specs.Prelude.{◌≡◌, ◌∷◌, ◌++◌, [], true, false, IfErr, IfNone, IfOk, IfSome, Ok, codes, decimal, map};
 ghost use Rattle.event_files.specs.EventFile.{HasBadWord, line_words, pieces_at};
 ghost use Rattle.commands.specs.ScriptFile.{AddsLine, IsNotUnderstood, IsScriptOf, RefusesCommands, Says, SaysLines, SaysOnlyEvents};
-ghost use Rattle.commands.specs.declared.script_command.reading.Command.TheVariants.{Offer};
 
 use crate::exit::CommandError;
-use event_files::{lines_of, parse_number, push_events, words_of};
+use event_files::{event, lines_of, parse_number, push_events, words_of};
 use std::alloc::Global;
 use std::str;
 use trace_model::{Event, EventBatch, NoMemory};
@@ -88,31 +87,18 @@ fn push_batch(alloc: Global, commands: &mut Vec<Command>, words: &[&[u8]]) -> Re
     Ok(true)
 }
 
-/// Appends an offer of each event.
-fn push_offers(commands: &mut Vec<Command>, events: &[Event]) -> Result<(), NoMemory>
-    ensures { OnOk result (commands.new.items ≡ commands.old.items ++ map Offer events.now) }
-{
-    for event in events {
-        commands.push(Command::Offer(*event))?;
-    }
-    Ok(())
-}
-
 /// Appends offers of the events that the words name. Returns whether these are event words.
-fn push_events_line(
-    alloc: Global,
-    commands: &mut Vec<Command>,
-    words: &[&[u8]],
-) -> Result<bool, NoMemory>
+fn push_offers(commands: &mut Vec<Command>, words: &[&[u8]]) -> Result<bool, NoMemory>
     ensures added { result ≡ Ok true →
         AddsLine commands.old.items (map (λ word. word.now) words.now) commands.new.items }
     ensures bad { result ≡ Ok false → HasBadWord (map (λ word. word.now) words.now) }
 {
-    let mut events = Vec::new(alloc);
-    if !push_events(&mut events, words)? {
-        return Ok(false);
+    for word in words {
+        let Some(event) = event(word) else {
+            return Ok(false);
+        };
+        commands.push(Command::Offer(event))?;
     }
-    push_offers(commands, &events)?;
     Ok(true)
 }
 
@@ -135,7 +121,7 @@ fn push_commands(
         commands.push(command)?;
         return Ok(true);
     }
-    push_events_line(alloc, commands, words)
+    push_offers(commands, words)
 }
 
 /// Appends the commands of a line of the file. Returns whether the line is understood.

@@ -15,4 +15,4 @@ returns-clause-wrong c = λ is.
           let same = slice_eq-Decides Decides-eqb w.in-Some.keyword.now.now w.as_slice.result.now w.eq.result w.eq.ensures in
           other_first words w.in-Some.keyword.now w.in-Some.events.now w.in-Some.ensures.cases (λ first. true≢false (sym (same.1 (first ∙ sym w.as_slice.ensures)) ∙ w.if-eq.false)) more batch
       | in_default w ↦ no_words words w.in_default.ensures.cases more batch
-    ]) c.in_default-parse_command.ensures.none (c.push_events_line.ensures.bad is)
+    ]) c.in_default-parse_command.ensures.none (c.push_offers.ensures.bad is)

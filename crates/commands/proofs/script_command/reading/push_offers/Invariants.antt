@@ -1,6 +1,6 @@
-use Rattle.std.proofs.Common.{◌≡◌, ◌++◌, map, take}
-use Rattle.commands.specs.declared.script_command.reading.Command.TheVariants.{Offer}
+use Rattle.std.proofs.Common.{map, take}
+use Rattle.commands.proofs.ScriptLines.{AddsOffers}
 use Rattle.commands.proofs.script_command.reading.push_offers.Given as goal
 
-abbrev pub invariant-loop-event : goal.invariant-loop-event
-invariant-loop-event l = l.commands.items ≡ l.initial.commands.items ++ map Offer (take l.event-index l.events)
+abbrev pub invariant-loop-word : goal.invariant-loop-word
+invariant-loop-word l = AddsOffers l.initial.commands.items (map (λ word. word.now) (take l.word-index l.words)) l.commands.items
