@@ -9,6 +9,7 @@ ghost use Rattle.wellformed.specs.Tables.{FollowEvents};
 ghost use Rattle.wellformed.specs.FirstUnlawful.{IsFirstUnlawful};
 ghost use Rattle.event_files.specs.EventFile.{pieces_at, RefusesLines};
 ghost use Rattle.event_files.specs.declared.refused.FileRefused.TheVariants as refusals;
+ghost use Rattle.findings.specs.Analyses.{IsAnalysisOf};
 ghost use Rattle.commands.specs.Admission.{AreLawfulEventsOf, HasBadLine, RefusesFile};
 ghost use Rattle.commands.specs.AdmittedBlocks.{AreEventsBefore, IsBlockAfter, IsRefusedAfter};
 ghost use Rattle.commands.specs.Opening.{IsOpeningOf};
@@ -224,8 +225,7 @@ pub(crate) fn analyze<R: Threads>(
     snapshot: Snapshot,
     bound: Bound,
 ) -> Result<Arc<Analysis, Global>, NoMemory>
-    ensures { IfOk result (λ shared.
-        ((arc_value shared).events ≡ snapshot) × ((arc_value shared).bound ≡ bound)) }
+    ensures { IfOk result (λ shared. IsAnalysisOf snapshot bound (arc_value shared)) }
 {
     Analysis::new_on(rt, alloc, Arc::new(alloc, snapshot)?, bound)
 }

@@ -4,6 +4,7 @@ ghost use Rattle.std.specs.Prelude.{◌≡◌, ◌≢◌, slice_get, IfOk, IsSom
 ghost use Rattle.std.specs.Arc.{arc_value};
 ghost use Rattle.std.specs.Option.{option_eq};
 ghost use Rattle.trace_model.specs.Protocol.Machine.{same_event};
+ghost use Rattle.findings.specs.Analyses.{IsAnalysisOf};
 
 use findings::{Analysis, Snapshot};
 use std::alloc::Global;
@@ -41,8 +42,8 @@ impl SharedAnalysis {
         snapshot: Arc<Snapshot, Global>,
         bound: Bound,
     ) -> Result<Arc<Analysis, Global>, NoMemory>
-        ensures own { IfOk result (λ own. ((arc_value own).events ≡ arc_value snapshot)
-            × ((arc_value own).bound ≡ bound)) }
+        ensures own { IfOk result (λ own.
+            IsAnalysisOf (arc_value snapshot) bound (arc_value own)) }
         ensures kept { IfOk result (λ own. (self.new.question ≡ question)
             × IsSomeAnd self.new.kept (λ kept. arc_value kept ≡ arc_value own)) }
         ensures none { OnErr result (self.new.kept ≡ None) }

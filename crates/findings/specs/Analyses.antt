@@ -22,6 +22,10 @@ pub record AnalysisView : Type 0 where
   pub bound : ℕ
   pub requirements : Option Requirements
 
+-- The analysis is one of the trace, for cycles up to the bound.
+abbrev pub IsAnalysisOf : Trace → ℕ → AnalysisView → Type 0
+IsAnalysisOf s bound analysis = (analysis.events ≡ s) × (analysis.bound ≡ bound)
+
 -- The trace has no cycle up to the bound.
 abbrev pub HasNoCycle : Trace → ℕ → Type 0
 HasNoCycle s bound = (numbers : List ℕ) → IsCycle (dependencies s) bound numbers → ⊥

@@ -2,7 +2,7 @@
 
 ghost use Rattle.std.specs.Prelude.{◌≡◌, IfOk, IsTrue};
 ghost use Rattle.std.specs.Arc.{arc_value};
-ghost use Rattle.findings.specs.Analyses.{AreAnalysisTables, HasNoCycle};
+ghost use Rattle.findings.specs.Analyses.{AreAnalysisTables, HasNoCycle, IsAnalysisOf};
 
 use crate::tables::Tables;
 use snapshots::Snapshot;
@@ -55,8 +55,7 @@ impl Analysis {
         snapshot: Arc<Snapshot, Global>,
         bound: Bound,
     ) -> Result<Arc<Analysis, Global>, NoMemory>
-        ensures { IfOk result (λ a. ((arc_value a).events ≡ arc_value snapshot)
-            × ((arc_value a).bound ≡ bound)) }
+        ensures { IfOk result (λ a. IsAnalysisOf (arc_value snapshot) bound (arc_value a)) }
     {
         let tables = Tables::new(alloc, &snapshot, bound)?;
         Analysis::shared(alloc, snapshot, bound, tables)
@@ -72,8 +71,7 @@ impl Analysis {
         snapshot: Arc<Snapshot, Global>,
         bound: Bound,
     ) -> Result<Arc<Analysis, Global>, NoMemory>
-        ensures { IfOk result (λ a. ((arc_value a).events ≡ arc_value snapshot)
-            × ((arc_value a).bound ≡ bound)) }
+        ensures { IfOk result (λ a. IsAnalysisOf (arc_value snapshot) bound (arc_value a)) }
     {
         let tables = Tables::new_on(rt, alloc, &snapshot, bound)?;
         Analysis::shared(alloc, snapshot, bound, tables)
@@ -90,8 +88,7 @@ impl Analysis {
         tables: Tables,
     ) -> Result<Arc<Analysis, Global>, NoMemory>
         requires { AreAnalysisTables (arc_value snapshot) bound tables }
-        ensures { IfOk result (λ a. ((arc_value a).events ≡ arc_value snapshot)
-            × ((arc_value a).bound ≡ bound)) }
+        ensures { IfOk result (λ a. IsAnalysisOf (arc_value snapshot) bound (arc_value a)) }
     {
         let analysis = Analysis {
             snapshot,

@@ -3,6 +3,7 @@ ghost use Rattle.std.specs.Prelude.{◌≡◌, length, IfOk, IfErr, OnOk};
 ghost use Rattle.std.specs.Arc.{arc_value};
 ghost use Rattle.trace_model.specs.Theory.Dependencies.{dependencies};
 ghost use Rattle.trace_model.specs.Theory.Lawful.{IsWellFormed};
+ghost use Rattle.findings.specs.Analyses.{IsAnalysisOf};
 ghost use Rattle.offline_report.specs.Offline.{IsNotAdmitted, IsOfflineRefusal, IsReport, IsReportRows};
 
 use crate::parts::{ReportRows, report_rows};
@@ -169,8 +170,7 @@ fn analyze<R: Threads>(
     bound: Bound,
 ) -> Result<Arc<Analysis, Global>, NoMemory>
     requires { IsWellFormed events.items }
-    ensures { IfOk result (λ shared.
-        ((arc_value shared).events ≡ events.items) × ((arc_value shared).bound ≡ bound)) }
+    ensures { IfOk result (λ shared. IsAnalysisOf events.items bound (arc_value shared)) }
 {
     let snapshot = Snapshot::build(rt, alloc, state, &events)?;
     drop(events);
