@@ -1,5 +1,5 @@
 -- What a script prints, and how it ends (this project's profile).
-use Rattle.std.specs.Prelude.{◌≡◌, ℕ, List, [], ◌∷◌, ◌++◌, Option, Result, box_value, codes, take}
+use Rattle.std.specs.Prelude.{◌≡◌, ℕ, List, [], ◌∷◌, ◌++◌, Option, None, Result, box_value, codes, take}
 use Rattle.trace_model.specs.declared.refusal.Refusal.{Refusal}
 use Rattle.trace_model.specs.declared.messages.session.Request.{Request}
 use Rattle.trace_model.specs.declared.messages.session.Request.TheVariants as requests
@@ -7,6 +7,7 @@ use Rattle.trace_model.specs.declared.messages.session.Reply.{Reply}
 use Rattle.trace_model.specs.Protocol.Frames.{IsRequest, frame}
 use Rattle.trace_model.specs.Protocol.Machine.{State, opening}
 use Rattle.event_files.specs.EventFile.{pieces_at}
+use Rattle.event_frames.specs.Reader.{FrameReaderView}
 use Rattle.sequencer.specs.Called.{StepsOrMemory, WantsRightly}
 use Rattle.commands.specs.Output.{EndsWithStatus}
 use Rattle.commands.specs.Script.{reply_text}
@@ -27,6 +28,18 @@ abbrev pub RepliesToFrame : List ℕ → State → Reply → State → Type 0
 RepliesToFrame bytes s reply next = (request : Request) → IsRequest request →
     bytes ≡ frame request →
     StepsOrMemory s request reply next × WantsRightly s request reply
+
+-- the reader has the frame of one request, and has returned no fault
+pub record HasOneFrame (reader : FrameReaderView) : Type 0 where
+  pub frame : IsFrame reader.rest
+  pub faultless : reader.returned ≡ None
+
+-- the reply is that to the reader's frame; the reader left has no byte and no fault
+pub record AnswersFrame (reader : FrameReaderView) (s : State) (reply : Reply)
+    (left : FrameReaderView) (next : State) : Type 0 where
+  pub replied : RepliesToFrame reader.rest s reply next
+  pub read : left.rest ≡ []
+  pub same : (left.returned ≡ None) × (left.ended ≡ reader.ended)
 
 -- the text is that of the machine's reply to the request; or of `NoMemory`, if the machine accepts
 -- the request and its reply needs an allocation

@@ -15,7 +15,7 @@ ghost use Rattle.commands.specs.Output.{AppendsPart, EndsWithResult, IsCutShort,
 ghost use Rattle.commands.specs.Script.{reply_text};
 ghost use Rattle.commands.specs.ScriptFile.{FitsCommand};
 ghost use Rattle.commands.specs.ScriptRun.{DeliversTask, DeliversOne, IsJobIn, RefusesTask, Works, outcome_line};
-ghost use Rattle.commands.specs.ScriptTells.{HasWrongCommand, IsFrame, IsPrintOf, IsReplyTo, Prints, PrintsAll, PrintsFirst, Replies, RepliesToFrame, RunPrints, ScriptPrints, ScriptTells};
+ghost use Rattle.commands.specs.ScriptTells.{AnswersFrame, HasOneFrame, HasWrongCommand, IsFrame, IsPrintOf, IsReplyTo, Prints, PrintsAll, PrintsFirst, Replies, RunPrints, ScriptPrints, ScriptTells};
 ghost use Rattle.commands.specs.declared.exit.Status.TheVariants.{Error};
 
 use crate::exit::{CommandError, Status, reported, write_bytes};
@@ -226,11 +226,8 @@ impl ScriptSession {
 
 /// Returns the book's reply to the request whose frame is the rest of the reader.
 fn reply_to_next(reader: &mut FrameReader, book: &mut Book) -> Reply
-    requires frame { IsFrame reader.old.rest }
-    requires faultless { reader.old.returned ≡ None }
-    ensures replied { RepliesToFrame reader.old.rest book.old.state result book.new.state }
-    ensures read { reader.new.rest ≡ [] }
-    ensures same { (reader.new.returned ≡ None) × (reader.new.ended ≡ reader.old.ended) }
+    requires { HasOneFrame reader.old }
+    ensures { AnswersFrame reader.old book.old.state result reader.new book.new.state }
 {
     match reader.next_offer() {
         Some(event) => book.call_offer(event),
@@ -238,15 +235,12 @@ fn reply_to_next(reader: &mut FrameReader, book: &mut Book) -> Reply
     }
 }
 
-/// Returns the book's reply to the request whose frame is the rest of the reader. Not inlined,
-/// since it pays at entry for a request on the stack, which is much larger than an event.
+/// Returns the book's reply as `reply_to_next` does. Not inlined: at entry it clears room for a
+/// request on the stack, which an event does not need.
 #[inline(never)]
 fn reply_to_any(reader: &mut FrameReader, book: &mut Book) -> Reply
-    requires frame { IsFrame reader.old.rest }
-    requires faultless { reader.old.returned ≡ None }
-    ensures replied { RepliesToFrame reader.old.rest book.old.state result book.new.state }
-    ensures read { reader.new.rest ≡ [] }
-    ensures same { (reader.new.returned ≡ None) × (reader.new.ended ≡ reader.old.ended) }
+    requires { HasOneFrame reader.old }
+    ensures { AnswersFrame reader.old book.old.state result reader.new book.new.state }
 {
     book.call(&request_in(reader.next()))
 }

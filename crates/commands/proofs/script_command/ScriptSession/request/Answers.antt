@@ -30,14 +30,15 @@ returns-clause-cut g c =
     ) c.write-written.ensures.cut
 
 -- the reader has one frame
-pub reply_to_next-reply-requires-clause-frame : goal.reply_to_next-reply-requires-clause-frame
-reply_to_next-reply-requires-clause-frame g c =
+pub reply_to_next-reply-requires : goal.reply_to_next-reply-requires
+reply_to_next-reply-requires g c =
     let self = c.args.self.now in
+    let fed = c.in_ok-feed.ensures.fed in
     let (request, fits, is) = c.requires in
-    (request, fits, fed_frame self.reader c.feed.new.self c.args.bytes.now request self.read self.faultless c.in_ok-feed.ensures.fed is)
-
-pub reply_to_next-reply-requires-clause-faultless : goal.reply_to_next-reply-requires-clause-faultless
-reply_to_next-reply-requires-clause-faultless g c = c.in_ok-feed.ensures.fed.0 ∙ c.args.self.now.faultless
+    record {
+      frame = (request, fits, fed_frame self.reader c.feed.new.self c.args.bytes.now request self.read self.faultless fed is);
+      faultless = fed.0 ∙ self.faultless;
+    }
 
 -- every byte is read
 pub invariant_of-self-2 : goal.invariant_of-self-2
