@@ -22,7 +22,8 @@ pub(crate) struct Run {
 #[derive(Drop)]
 pub struct Positions {
     prefixes: Vec<ThreadPrefix>,
-    /// For each place the number of places from it to the end of its run, at most 65,535.
+    /// For each place the length of a run that begins with it. A run of more than 65,535 places is
+    /// listed as several.
     lengths: Vec<u16>,
 }
 

@@ -74,7 +74,7 @@ fn position_in_order<V>(entries: &Entries<V>, number: u32) -> Option<usize>
     None
 }
 
-/// Returns the position of `number`. Hashes it only if it is not at the position in order.
+/// Returns the position of `number`. Hashes it only if `position_in_order` does not find it.
 #[inline(never)]
 fn uncached_position_of<V>(entries: &Entries<V>, number: u32) -> Option<usize>
     ensures { HasNumberAt entries.now.entries number result }
